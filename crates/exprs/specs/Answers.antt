@@ -1,0 +1,44 @@
+-- What the functions of this crate answer of the expression that a slice begins with: how many bytes it has, and its value.
+-- From `Reading`, and the tree's own size and value.
+use Prim.Native.Nat.{ℕ}
+use mathlib.Core.Bool.{Bool, not, _&&_, _||_, Bool·beq, false}
+use mathlib.Core.List.{List}
+use mathlib.Core.Option.{Option, none, some}
+use Rattle.exprs.specs.declared.token.Token.{Token}
+use Rattle.exprs.specs.declared.token.Token.the-variants.{Constant, Now, Next, Not, And, Or, Implies, Alike, Other}
+use Rattle.exprs.specs.declared.reading.Extent.{Extent}
+use Rattle.exprs.specs.declared.reading.Extent.the-variants.{Used, NoExpression}
+use Rattle.exprs.specs.declared.value.Valued.{Valued}
+use Rattle.exprs.specs.declared.value.Valued.the-variants.{Value, Unreadable}
+use Rattle.exprs.specs.Expr.{Expr, value, size}
+use Rattle.exprs.specs.Reading.{readExpr}
+
+unfoldable pub usedBy : Option Expr → Extent
+usedBy none = NoExpression
+usedBy (some e) = Used (size e)
+
+-- the bytes of the expression that s begins with
+unfoldable pub readOf : List ℕ → Extent
+unfolding usedBy
+readOf s = usedBy (readExpr s)
+
+unfoldable pub valueIn : ℕ → ℕ → Option Expr → Valued
+valueIn now next none = Unreadable
+valueIn now next (some e) = Value (value e now next) (size e)
+
+-- the value of the expression that s begins with, and its bytes
+unfoldable pub valueOf : List ℕ → ℕ → ℕ → Valued
+unfolding valueIn
+valueOf s now next = valueIn now next (readExpr s)
+
+-- an operator at the values of its operands; `!` looks at the first only
+abbrev pub combined : Token → Bool → Bool → Bool
+combined (Constant v) x y = false
+combined (Now i) x y = false
+combined (Next i) x y = false
+combined Not x y = not x
+combined And x y = x && y
+combined Or x y = x || y
+combined Implies x y = not x || y
+combined Alike x y = Bool·beq x y
+combined Other x y = false
