@@ -1,2 +1,9 @@
--- The root of this crate's definitions.
+-- The root of this crate's definitions and laws: a rule set as a number, and the theory of cores and cuts for any judgement of rule sets.
 pub mod Bit
+pub mod Sets
+pub mod Cores
+pub mod Lists
+pub mod Listed
+pub mod Must
+pub mod Edges
+pub mod Duality

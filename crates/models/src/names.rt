@@ -1,0 +1,72 @@
+// The rule lines: a name that no earlier rule has, `:` and an expression over the bits now and one second later.
+ghost use mathlib.Core.Path.{_≡_};
+ghost use mathlib.Core.Bool.{_&&_};
+ghost use Prim.Native.Nat.{_-_, _≤_};
+ghost use lib.Dec.{leb, eqb};
+ghost use lib.ListN.{drop};
+ghost use Rattle.models.specs.Lines.{isTaken, nameOf, ruleLine};
+use crate::classes::Class;
+use crate::lines::End;
+use crate::lines::Line;
+
+// A proper name has 1 to 8 bytes, and `:` follows it.
+fn is_named(length: usize, next: u8) -> bool
+    ensures { λ r. ⌜ r ≡ (leb 1 length && (leb length 8 && eqb next 58)) ⌝ }
+{
+    (1 <= length) & ((length <= 8) & (next == b':'))
+}
+
+fn one_less(n: usize) -> usize
+    ensures { λ r. ⌜ r ≡ n - 1 ⌝ }
+{
+    if n == 0 { 0 } else { n - 1 }
+}
+
+// Whether one of the first `count` rules has this name.
+fn is_taken(text: &[u8], names: [usize; 16], steps: [usize; 16], count: usize, name: &[u8]) -> bool
+    requires { ⌜ count ≤ 16 ⌝ }
+    ensures { λ r. ⌜ r ≡ isTaken (now (text .entry)) names steps count (now (name .entry)) ⌝ }
+{
+    let mut found = false;
+    let mut j = 0;
+    while j < count {
+        let from = names[j];
+        let to = one_less(steps[j]);
+        let earlier = crate::parts::part(text, from, to);
+        found = found | crate::parts::same_bytes(earlier, name);
+        j += 1;
+    }
+    found
+}
+
+// The line at a place of the text, after `count` rules.
+pub fn rule_line(
+    text: &[u8],
+    at: usize,
+    vars: usize,
+    names: [usize; 16],
+    steps: [usize; 16],
+    count: usize,
+) -> Line
+    requires { ⌜ count ≤ 16 ⌝ }
+    ensures { λ r.
+        ⌜ r ≡ ruleLine vars (isTaken (now (text .entry)) names steps count) (drop at (now (text .entry))) ⌝ }
+{
+    let s = crate::parts::rest(text, at);
+    let End::At(end) = crate::lines::end_of(b"rule=", s) else {
+        return Line::Fault(1);
+    };
+    let v = crate::parts::part(s, 5, end);
+    let k = crate::classes::prefix_of(Class::InName, v);
+    if !is_named(k, crate::parts::byte_at(v, k)) {
+        return Line::Fault(3);
+    }
+    if is_taken(text, names, steps, count, crate::parts::front(v, k)) {
+        return Line::Fault(4);
+    }
+    let number = crate::expressions::fault_in(vars, true, crate::parts::rest(v, k + 1));
+    if number != 0 {
+        return Line::Fault(number);
+    }
+    Line::Read(6 + k, end + 1)
+}

@@ -1,0 +1,115 @@
+-- Rule sets as numbers: parts, proper parts, sharing a rule, and the order of the lists.
+-- The laws tie the part and the shared rule to what code computes, and say what the order needs; from the rules that Bit says a number has.
+use Prim.Native.Nat.{ℕ, _-_, _^_, _≤_, _<_}
+use mathlib.Core.Path.{_≡_, refl}
+use mathlib.Core.Logic.{_↔_, _≢_}
+use mathlib.Core.Bool.{Bool, true}
+use native.Mathlib.Omega.{arith}
+use lib.Dec.{eqb}
+use lib.Bits.{bitAnd}
+use lib.Count.{ones}
+use borrow.Author.Tests.{eqb-true, eq-eqb}
+use Rattle.sets.specs.Bit.{has, full, has-and, has-le, has-some, has-below, has-zero, has-full, has-rest, has-one}
+
+infix 50 _⊑_
+-- S is a part of T: every rule of S is a rule of T.
+pub record _⊑_ (S T : ℕ) : Type 0 where
+  pub every : (i : ℕ) → has S i ≡ true → has T i ≡ true
+
+-- A part that is not the whole.
+pub record ProperPart (S T : ℕ) : Type 0 where
+  pub within : S ⊑ T
+  pub other : S ≢ T
+
+-- S shares a rule with T.
+pub record Shares (S T : ℕ) : Type 0 where
+  pub rule : ℕ
+  pub inFirst : has S rule ≡ true
+  pub inSecond : has T rule ≡ true
+
+-- S comes before T in a list: it has fewer rules, or as many and a smaller number. How many rules a set has is its count of ones.
+pub data Before (S T : ℕ) : Type 0 where
+  fewer : ones S < ones T → Before S T
+  asMany : ones S ≡ ones T → S < T → Before S T
+
+-- The test for a part: what S and T have in common is S.
+unfoldable pub part : ℕ → ℕ → Bool
+part S T = eqb (bitAnd S T) S
+
+-- ---- parts
+
+pub part-refl : (S : ℕ) → S ⊑ S
+part-refl S = record { every = λ i e. e }
+
+pub part-trans : {S T U : ℕ} → S ⊑ T → T ⊑ U → S ⊑ U
+part-trans p q = record { every = λ i e. q .every i (p .every i e) }
+
+pub part-le : {S T : ℕ} → S ⊑ T → S ≤ T
+part-le {S} {T} p = has-le S T (p .every)
+
+pub part-antisym : {S T : ℕ} → S ⊑ T → T ⊑ S → S ≡ T
+part-antisym p q = omega (arith, part-le p, part-le q)
+
+-- A proper part has a smaller number.
+pub proper-lt : {S T : ℕ} → ProperPart S T → S < T
+proper-lt p = omega (arith, part-le (p .within), p .other)
+
+-- Set 0 is a part of every set, and every set of R rules is a part of the full set.
+pub part-zero : (S : ℕ) → 0 ⊑ S
+part-zero S = record { every = λ i e. absurd (has-zero i e) }
+
+pub part-full : (R S : ℕ) → S < 2 ^ R → S ⊑ full R
+part-full R S h = record { every = λ i e. has-full R i .1 (has-below R S i h e) }
+
+-- The test is true exactly of a part.
+pub part-iff : (S T : ℕ) → (part S T ≡ true) ↔ (S ⊑ T)
+unfolding part
+part-iff S T = (
+  λ e. record { every = λ i m. has-and S T i .0 (rw (eqb-true (bitAnd S T) S e) m) .1 },
+  λ p. eq-eqb (bitAnd S T) S
+      (part-antisym (record { every = λ i m. has-and S T i .0 m .0 })
+      (record { every = λ i m. has-and S T i .1 (m, p .every i m) })),
+)
+
+-- Of two sets of R rules, the more is taken away the less is left.
+pub part-rest : (R S T : ℕ) → T < 2 ^ R → S ⊑ T → full R - T ⊑ full R - S
+part-rest R S T h p =
+    record {
+      every = λ i e.
+          let r = has-rest R T i h .0 e in
+          has-rest R S i (omega (arith, part-le p)) .1 (r .0, λ m. r .1 (p .every i m));
+    }
+
+-- ---- a shared rule
+
+-- Two sets share a rule exactly when what they have in common is not set 0.
+pub shares-iff : (S T : ℕ) → (Shares S T) ↔ (bitAnd S T ≢ 0)
+shares-iff S T = (
+  λ s e. has-zero (s .rule) (rw e at (has-and S T (s .rule) .1 (s .inFirst, s .inSecond))),
+  λ n. let r = has-some (bitAnd S T) n in
+      let both = has-and S T (r .0) .0 (r .1) in
+      record { rule = r .0; inFirst = both .0; inSecond = both .1 },
+)
+
+-- A rule alone shares a rule with T exactly when T has it.
+pub shares-one : (i T : ℕ) → (Shares (2 ^ i) T) ↔ (has T i ≡ true)
+shares-one i T = (
+  λ s. rw (has-one i (s .rule) .0 (s .inFirst)) at (s .inSecond),
+  λ e. record { rule = i; inFirst = has-one i i .1 refl; inSecond = e },
+)
+
+-- A set that shares no rule with S is a part of what is left without S; and a part of that shares no rule with S.
+pub apart-iff : (R S T : ℕ) → S < 2 ^ R → T < 2 ^ R → (¬ Shares S T) ↔ (T ⊑ full R - S)
+apart-iff R S T hS hT = (
+  λ n. record {
+    every = λ i e.
+        has-rest R S i hS .1 (has-below R T i hT e, λ m. n (record { rule = i; inFirst = m; inSecond = e }));
+  },
+  λ p s. has-rest R S (s .rule) hS .0 (p .every (s .rule) (s .inSecond)) .1 (s .inFirst),
+)
+
+-- ---- the order
+
+pub before-irrefl : (S : ℕ) → ¬ Before S S
+before-irrefl S (fewer l) = omega arith
+before-irrefl S (asMany e l) = omega arith
