@@ -3,7 +3,7 @@
 use Prim.Native.Nat.{ℕ, _+_, _-_, _<_, _≤_}
 use mathlib.Core.Path.{_≡_, refl, sym, ap, ap₂, _∙_, subst}
 use mathlib.Core.Logic.{_↔_}
-use mathlib.Core.Bool.{Bool, true, false, cond, _&&_}
+use mathlib.Core.Bool.{Bool, true, false, _&&_}
 use mathlib.Core.List.{List, [], _∷_, _++_, append-assoc}
 use mathlib.Core.Option.{some, Option·none-ne-some, Option·some-injective}
 use native.Mathlib.Omega.{arith}
@@ -11,6 +11,7 @@ use borrow.Author.Tests.{eqb-true, leb-true, le-leb, lt-leb, ne-eqb}
 use lib.Dec.{eqb, leb}
 use lib.ListN.{drop}
 use lib.Seq.{drop-append-seam}
+use Rattle.sets.specs.Choice.{by-test}
 use Rattle.exprs.specs.declared.token.Token.{Token}
 use Rattle.exprs.specs.declared.token.Token.the-variants.{Constant, Now, Next, Not, And, Or, Implies, Alike, Other}
 use Rattle.exprs.specs.Token.{tokenOf}
@@ -30,10 +31,6 @@ Spelt Or b = b ≡ 124
 Spelt Implies b = b ≡ 62
 Spelt Alike b = b ≡ 61
 Spelt Other b = Unit
-
-by-test : {A : Type 0} (P : A → Type 0) (t : Bool) {x y : A} → (t ≡ true → P x) → (t ≡ false → P y) → P (cond t x y)
-by-test P true f g = f refl
-by-test P false f g = g refl
 
 letter : (f b : ℕ) → (leb f b && leb b (f + 6)) ≡ true → (b - f < 7) × (b ≡ f + (b - f))
 letter f b e = go (leb f b) refl e

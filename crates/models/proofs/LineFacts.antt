@@ -12,7 +12,7 @@ use Rattle.models.specs.declared.lines.Line.the-variants.{Fault, Read}
 use Rattle.models.specs.declared.lines.End.{End}
 use Rattle.models.specs.declared.lines.End.the-variants.{At, Missing}
 use Rattle.models.specs.Lines.{lineLength, isLine, endOf, valueOf, says, counted, withFault}
-use Rattle.models.specs.Bounds.{line-within}
+use Rattle.models.specs.Ranges.{line-within}
 
 -- the line that s begins with has the key and ends at `end`
 pub record Ended (key s : List ℕ) (end : ℕ) : Type 0 where

@@ -2,4 +2,4 @@
 pub mod Bytes
 pub mod Lines
 pub mod Reading
-pub mod Bounds
+pub mod Ranges

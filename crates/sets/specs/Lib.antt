@@ -1,4 +1,5 @@
 -- The root of this crate's definitions and laws: a rule set as a number, and the theory of cores and cuts for any judgement of rule sets.
+pub mod Choice
 pub mod Bit
 pub mod Sets
 pub mod Cores

@@ -11,7 +11,7 @@ use Rattle.models.specs.declared.lines.Line.{Line}
 use Rattle.models.specs.declared.lines.Line.the-variants.{Read}
 use Rattle.models.specs.declared.model.Rules.{Rules}
 use Rattle.models.specs.Lines.{ruleLine, isTaken}
-use Rattle.models.specs.Bounds.{rule-says}
+use Rattle.models.specs.Ranges.{says-of, rule-heard}
 use Rattle.models.specs.Reading.{ruled, nextRule, withRule}
 use Rattle.models.proofs.model.next_rule.Statement.{statement}
 use Rattle.models.proofs.model.next_rule.Tie as tie
@@ -25,7 +25,7 @@ record Places (text : List ℕ) (at place bytes : ℕ) : Type 0 where
 places : (text : List ℕ) (vars i : ℕ) (r : Rules) {l : Line} {place bytes : ℕ} → l ≡ ruleLine vars (isTaken text (r .names) (r .steps) i) (drop (r .at) text)
     → l ≡ Read place bytes → Places text (r .at) place bytes
 places text vars i r {place = place} {bytes} said told =
-    let h = rule-says (drop (r .at) text) vars (isTaken text (r .names) (r .steps) i) (sym said ∙ told) in
+    let h = says-of (rule-heard vars (isTaken text (r .names) (r .steps) i) (drop (r .at) text)) (sym said ∙ told) in
     let d = length-drop (r .at) text in
     record { next = omega arith; here = omega arith; near = h .small }
 

@@ -9,7 +9,7 @@ use lib.ListN.{length, drop, length-drop}
 use Rattle.models.specs.declared.lines.Line.{Line}
 use Rattle.models.specs.declared.lines.Line.the-variants.{Fault, Read}
 use Rattle.models.specs.Lines.{faultNumber, initKey, propKey, varsLine, rulesLine, stateLine}
-use Rattle.models.specs.Bounds.{Says, rules-says, state-says}
+use Rattle.models.specs.Ranges.{Says, says-of, rules-heard, state-heard}
 use Rattle.models.specs.Reading.{refused, onLine, finished, rulesRead, readModel}
 use Rattle.models.proofs.model.read_model.Statement.{statement}
 use Rattle.models.proofs.model.read_model.Tie as tie
@@ -79,7 +79,7 @@ read-model-spec =
     let s : List ℕ = p0 .before .before .before .before .args .text .now in
     let qa = sym (p0 .before .before .vars-line .ensures) ∙ p0 .a .given .1 in
     let qb = heard rulesLine (p1 .before .before .rules-line .ensures) (p1 .before .before .before .rest .ensures) (p1 .b .given .1) in
-    omega (arith, ends s (p0 .a .given .0 .1 .0) (rules-says (drop (p0 .a .given .0 .1 .0) s) qb), p0 .before .before .before .before .good .0))
+    omega (arith, ends s (p0 .a .given .0 .1 .0) (says-of (rules-heard (drop (p0 .a .given .0 .1 .0) s)) qb), p0 .before .before .before .before .good .0))
     (λ c. search needs)
     (λ c κs. search needs)
     (λ c κs. search needs)
@@ -103,7 +103,7 @@ read-model-spec =
     let qa = sym (p0 .before .before .vars-line .ensures) ∙ p0 .a .given .1 in
     let qb = heard rulesLine (p1 .before .before .rules-line .ensures) (p1 .before .before .before .rest .ensures) (p1 .b .given .1) in
     let qc = heard (stateLine initKey _) (p2 .before .before .state-line .ensures) (p2 .before .before .before .rest2 .ensures) (p2 .c .given .1) in
-    omega (arith, ends s (p0 .a .given .0 .1 .0 + p1 .b .given .0 .1 .0) (state-says initKey (drop (p0 .a .given .0 .1 .0 + p1 .b .given .0 .1 .0) s) (p0 .a .given .0 .0) qc), p0 .before .before .before .before .good .0))
+    omega (arith, ends s (p0 .a .given .0 .1 .0 + p1 .b .given .0 .1 .0) (says-of (state-heard initKey (p0 .a .given .0 .0) (drop (p0 .a .given .0 .1 .0 + p1 .b .given .0 .1 .0) s)) qc), p0 .before .before .before .before .good .0))
     (λ c. search needs)
     (λ c κs. search needs)
     (λ c κs. search needs)
@@ -131,14 +131,14 @@ read-model-spec =
     let qb = heard rulesLine (p1 .before .before .rules-line .ensures) (p1 .before .before .before .rest .ensures) (p1 .b .given .1) in
     let qc = heard (stateLine initKey _) (p2 .before .before .state-line .ensures) (p2 .before .before .before .rest2 .ensures) (p2 .c .given .1) in
     let qd = heard (stateLine propKey _) (p3 .before .before .state-line2 .ensures) (p3 .before .before .before .rest3 .ensures) (p3 .d .given .1) in
-    omega (arith, ends s (p0 .a .given .0 .1 .0 + p1 .b .given .0 .1 .0 + p2 .c .given .0 .1 .0) (state-says propKey (drop (p0 .a .given .0 .1 .0 + p1 .b .given .0 .1 .0 + p2 .c .given .0 .1 .0) s) (p0 .a .given .0 .0) qd), p0 .before .before .before .before .good .0))
+    omega (arith, ends s (p0 .a .given .0 .1 .0 + p1 .b .given .0 .1 .0 + p2 .c .given .0 .1 .0) (says-of (state-heard propKey (p0 .a .given .0 .0) (drop (p0 .a .given .0 .1 .0 + p1 .b .given .0 .1 .0 + p2 .c .given .0 .1 .0) s)) qd), p0 .before .before .before .before .good .0))
     (λ c κs.
     let p1 = c .before .before .before .before .before .before .before .before .before .before .before .before .before in
     let p0 = p1 .before .before .before .before .before in
     let s : List ℕ = p0 .before .before .before .before .args .text .now in
     let qa = sym (p0 .before .before .vars-line .ensures) ∙ p0 .a .given .1 in
     let qb = heard rulesLine (p1 .before .before .rules-line .ensures) (p1 .before .before .before .rest .ensures) (p1 .b .given .1) in
-    (rules-says (drop (p0 .a .given .0 .1 .0) s) qb) .small)
+    (says-of (rules-heard (drop (p0 .a .given .0 .1 .0) s)) qb) .small)
     (λ c.
     let p3 = c .before .before in
     let p2 = p3 .before .before .before .before .before .before in
@@ -149,8 +149,8 @@ read-model-spec =
     let qb = heard rulesLine (p1 .before .before .rules-line .ensures) (p1 .before .before .before .rest .ensures) (p1 .b .given .1) in
     let qc = heard (stateLine initKey _) (p2 .before .before .state-line .ensures) (p2 .before .before .before .rest2 .ensures) (p2 .c .given .1) in
     let qd = heard (stateLine propKey _) (p3 .before .before .state-line2 .ensures) (p3 .before .before .before .rest3 .ensures) (p3 .d .given .1) in
-    let near : p2 .c .given .0 .0 ≤ 5 = (state-says initKey (drop (p0 .a .given .0 .1 .0 + p1 .b .given .0 .1 .0) s) (p0 .a .given .0 .0) qc) .small in
-    omega (arith, ends s (p0 .a .given .0 .1 .0 + p1 .b .given .0 .1 .0) (state-says initKey (drop (p0 .a .given .0 .1 .0 + p1 .b .given .0 .1 .0) s) (p0 .a .given .0 .0) qc), p0 .before .before .before .before .good .0))
+    let near : p2 .c .given .0 .0 ≤ 5 = (says-of (state-heard initKey (p0 .a .given .0 .0) (drop (p0 .a .given .0 .1 .0 + p1 .b .given .0 .1 .0) s)) qc) .small in
+    omega (arith, ends s (p0 .a .given .0 .1 .0 + p1 .b .given .0 .1 .0) (says-of (state-heard initKey (p0 .a .given .0 .0) (drop (p0 .a .given .0 .1 .0 + p1 .b .given .0 .1 .0) s)) qc), p0 .before .before .before .before .good .0))
     (λ c.
     let p3 = c .before .before in
     let p2 = p3 .before .before .before .before .before .before in
@@ -161,15 +161,15 @@ read-model-spec =
     let qb = heard rulesLine (p1 .before .before .rules-line .ensures) (p1 .before .before .before .rest .ensures) (p1 .b .given .1) in
     let qc = heard (stateLine initKey _) (p2 .before .before .state-line .ensures) (p2 .before .before .before .rest2 .ensures) (p2 .c .given .1) in
     let qd = heard (stateLine propKey _) (p3 .before .before .state-line2 .ensures) (p3 .before .before .before .rest3 .ensures) (p3 .d .given .1) in
-    let near : p3 .d .given .0 .0 ≤ 5 = (state-says propKey (drop (p0 .a .given .0 .1 .0 + p1 .b .given .0 .1 .0 + p2 .c .given .0 .1 .0) s) (p0 .a .given .0 .0) qd) .small in
-    omega (arith, ends s (p0 .a .given .0 .1 .0 + p1 .b .given .0 .1 .0 + p2 .c .given .0 .1 .0) (state-says propKey (drop (p0 .a .given .0 .1 .0 + p1 .b .given .0 .1 .0 + p2 .c .given .0 .1 .0) s) (p0 .a .given .0 .0) qd), p0 .before .before .before .before .good .0))
+    let near : p3 .d .given .0 .0 ≤ 5 = (says-of (state-heard propKey (p0 .a .given .0 .0) (drop (p0 .a .given .0 .1 .0 + p1 .b .given .0 .1 .0 + p2 .c .given .0 .1 .0) s)) qd) .small in
+    omega (arith, ends s (p0 .a .given .0 .1 .0 + p1 .b .given .0 .1 .0 + p2 .c .given .0 .1 .0) (says-of (state-heard propKey (p0 .a .given .0 .0) (drop (p0 .a .given .0 .1 .0 + p1 .b .given .0 .1 .0 + p2 .c .given .0 .1 .0) s)) qd), p0 .before .before .before .before .good .0))
     (λ c κs.
     let p1 = c .before .before .before .before .before .before .before .before .before .before .before .before .before .before in
     let p0 = p1 .before .before .before .before .before in
     let s : List ℕ = p0 .before .before .before .before .args .text .now in
     let qa = sym (p0 .before .before .vars-line .ensures) ∙ p0 .a .given .1 in
     let qb = heard rulesLine (p1 .before .before .rules-line .ensures) (p1 .before .before .before .rest .ensures) (p1 .b .given .1) in
-    (rules-says (drop (p0 .a .given .0 .1 .0) s) qb) .small)
+    (says-of (rules-heard (drop (p0 .a .given .0 .1 .0) s)) qb) .small)
     (λ c.
     let p3 = c .before .before .before in
     let p2 = p3 .before .before .before .before .before .before in

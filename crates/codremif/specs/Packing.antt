@@ -1,0 +1,71 @@
+-- An answer in the parts that document 01 names, the same for every call, and as the one 64-bit number that a C host gets.
+-- From document 01, "Calls" and "When a call is turned away". The law: the number gives each part back. Assumes nothing.
+use Prim.Native.Nat.{ℕ, _+_, _*_, _/_, _%_, _^_, _<_}
+use mathlib.Core.Path.{_≡_}
+use mathlib.Core.Bool.{Bool, true, false, cond}
+use native.Mathlib.Omega.{arith}
+use Rattle.codremif.specs.declared.answers.JudgeAnswer.{JudgeAnswer}
+use Rattle.codremif.specs.declared.answers.JudgeAnswer.the-variants.{Refused as JudgeRefused, Holds, Broken}
+use Rattle.codremif.specs.declared.answers.ListAnswer.{ListAnswer}
+use Rattle.codremif.specs.declared.answers.ListAnswer.the-variants.{Refused as ListRefused, Count}
+use Rattle.codremif.specs.declared.answers.MustAnswer.{MustAnswer}
+use Rattle.codremif.specs.declared.answers.MustAnswer.the-variants.{Refused as MustRefused, Set}
+
+-- `amount` is the trace's length, the number of sets, or the set; `holds` is the verdict.
+pub record Parts : Type 0 where
+  pub number : ℕ
+  pub line : ℕ
+  pub amount : ℕ
+  pub holds : Bool
+
+-- An accepted call gives number 0 and line 0 with its answer.
+unfoldable pub accepted : ℕ → Bool → Parts
+accepted amount holds = record { number = 0; line = 0; amount = amount; holds = holds }
+
+-- Of a refused call every part but the number and the line is 0; a verdict then reads broken.
+unfoldable pub refused : ℕ → ℕ → Parts
+refused number line = record { number = number; line = line; amount = 0; holds = false }
+
+unfoldable pub judgeParts : JudgeAnswer → Parts
+unfolding accepted refused
+judgeParts (JudgeRefused number line) = refused number line
+judgeParts Holds = accepted 0 true
+judgeParts (Broken states) = accepted states false
+
+unfoldable pub listParts : ListAnswer → Parts
+unfolding accepted refused
+listParts (ListRefused number line) = refused number line
+listParts (Count sets) = accepted sets false
+
+unfoldable pub mustParts : MustAnswer → Parts
+unfolding accepted refused
+mustParts (MustRefused number line) = refused number line
+mustParts (Set S) = accepted S false
+
+-- The number, plus 256 times the line, plus 65,536 times the length, count or set, plus 2^40 for a verdict that holds.
+unfoldable pub packed : Parts → ℕ
+packed p = p .number + 256 * p .line + 65536 * p .amount + cond (p .holds) (2 ^ 40) 0
+
+-- ---- the law
+
+-- Each part fits its place in the packed number.
+pub record Fits (p : Parts) : Type 0 where
+  pub number : p .number < 256
+  pub line : p .line < 256
+  pub amount : p .amount < 2 ^ 24
+
+-- The packed number x gives each part back, and has 64 bits.
+pub record Unpacked (p : Parts) (x : ℕ) : Type 0 where
+  pub number : x % 256 ≡ p .number
+  pub line : x / 256 % 256 ≡ p .line
+  pub amount : x / 65536 % 2 ^ 24 ≡ p .amount
+  pub holds : x / 2 ^ 40 ≡ cond (p .holds) 1 0
+  pub small : x < 2 ^ 64
+
+flag : (b : Bool) → (cond b (2 ^ 40) 0 ≡ 2 ^ 40 * cond b 1 0) × (cond b 1 0 < 2)
+flag true = omega arith
+flag false = omega arith
+
+pub unpacked : (p : Parts) → Fits p → Unpacked p (packed p)
+unfolding packed
+unpacked p f = omega (arith, flag (p .holds))

@@ -1,0 +1,20 @@
+// What each call answers. `Refused` has the first number of document 01 that fits and its line, 0 where it concerns no line of the text.
+
+// Of a judged set: it holds, or it is broken and its trace has so many states.
+pub enum JudgeAnswer {
+    Refused(u8, usize),
+    Holds,
+    Broken(usize),
+}
+
+// Of a list of cores or of cuts: how many sets it has.
+pub enum ListAnswer {
+    Refused(u8, usize),
+    Count(usize),
+}
+
+// Of MUST: the set of these rules.
+pub enum MustAnswer {
+    Refused(u8, usize),
+    Set(u16),
+}

@@ -1,0 +1,2 @@
+// The calls on a model text: judge a set of rules, list the cores, list the cuts, give MUST.
+pub mod answers;

@@ -1,0 +1,53 @@
+-- How many numbers below a bound pass a test: at most the bound, and more if one more number passes.
+-- Assumes nothing.
+use Prim.Native.Nat.{ℕ, zero, suc, _+_, _≤_, _<_}
+use mathlib.Core.Path.{_≡_, refl, sym, ap, _∙_}
+use mathlib.Core.Logic.{⊎-elim}
+use mathlib.Core.Bool.{Bool, true, false, true≢false}
+use native.Mathlib.Nat.{eq-or-lt-of-le}
+use native.Mathlib.Omega.{arith}
+
+-- 1 for a test that is passed, else 0.
+unfoldable pub one : Bool → ℕ
+one true = 1
+one false = 0
+
+-- How many k below n have p k.
+unfoldable pub count : ℕ → (ℕ → Bool) → ℕ
+unfolding one
+count zero p = 0
+count (suc n) p = count n p + one (p n)
+
+pub count-le : (n : ℕ) (p : ℕ → Bool) → count n p ≤ n
+unfolding count
+count-le zero p = omega arith
+count-le (suc n) p = omega (arith, count-le n p, at-most (p n))
+  where
+    at-most : (b : Bool) → one b ≤ 1
+    at-most true = omega arith
+    at-most false = omega arith
+
+module _ (p q : ℕ → Bool) (implies : (k : ℕ) → p k ≡ true → q k ≡ true) where
+  one-le : (k : ℕ) → one (p k) ≤ one (q k)
+  unfolding one
+  one-le k = go (p k) (q k) (implies k)
+    where
+      go : (a b : Bool) → (a ≡ true → b ≡ true) → one a ≤ one b
+      go false b h = omega arith
+      go true true h = omega arith
+      go true false h = absurd (true≢false (sym (h refl)))
+
+  pub count-mono : (n : ℕ) → count n p ≤ count n q
+  unfolding count
+  count-mono zero = omega arith
+  count-mono (suc n) = omega (arith, count-mono n, one-le n)
+
+  -- Where every number that passes p passes q, and s passes q alone, more pass q.
+  pub count-more : (n s : ℕ) → s < n → p s ≡ false → q s ≡ true → count n p < count n q
+  unfolding count
+  count-more zero s h e f = absurd (omega arith)
+  count-more (suc n) s h e f =
+      ⊎-elim
+      (λ i. omega (arith, count-mono n, ap one (ap p (sym i) ∙ e), ap one (ap q (sym i) ∙ f)))
+      (λ i. omega (arith, count-more n s i e f, one-le n))
+      (eq-or-lt-of-le {n = s} {m = n} (omega arith))

@@ -1,0 +1,12 @@
+-- Transition systems. Read `System` for the meanings, `Verdict` for the functions that compute, `Judged` for the theorem that joins them.
+-- `Compare` has Lemma 1 of source document 000 and sameness; the other files have the laws that these rest on. Assumes nothing.
+pub mod Least
+pub mod Count
+pub mod System
+pub mod Verdict
+pub mod Walks
+pub mod Breaks
+pub mod Depth
+pub mod Judged
+pub mod Compare
+pub mod Meaning

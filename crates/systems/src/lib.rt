@@ -1,0 +1,1 @@
+// Transition systems over states that are numbers: runs, reached states, verdict and trace.
