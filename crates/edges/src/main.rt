@@ -1,0 +1,220 @@
+// The readings of edge texts: the number of the refusal and its line, 0 and 0 for a text that is accepted. What this program writes is
+// compared with the file `stdout` beside src/, which was written by hand from document 01.
+use libc::STDOUT_FILENO;
+use models::model::Outcome;
+
+fn show(name: &[u8], text: &[u8]) {
+    let reading = models::model::read_model(text);
+    let outcome = reading.outcome;
+    io::write_all(STDOUT_FILENO, name);
+    match outcome {
+        Outcome::Accepted => {
+            io::write_all(STDOUT_FILENO, b": accepted\n");
+        }
+        Outcome::Refused(number, line) => {
+            io::write_all(STDOUT_FILENO, b": refused=");
+            io::print_decimal(STDOUT_FILENO, number as u64);
+            io::write_all(STDOUT_FILENO, b" line=");
+            io::print_decimal(STDOUT_FILENO, line as u64);
+            io::write_all(STDOUT_FILENO, b"\n");
+        }
+    }
+}
+
+fn whole_texts() {
+    show(b"empty text", b"");
+    show(
+        b"Tremor",
+        b"vars=3\nrules=3\ninit=!c\nprop=>c&ab\nrule=ra:>CA\nrule=rb:>CB\nrule=vote:>C&AB\n",
+    );
+    show(
+        b"no byte 10 at the end",
+        b"vars=3\nrules=3\ninit=!c\nprop=>c&ab\nrule=ra:>CA\nrule=rb:>CB\nrule=vote:>C&AB",
+    );
+}
+
+fn vars_lines() {
+    show(b"vars=", b"vars=\nrules=1\ninit=1\nprop=1\nrule=r:1\n");
+    show(b"vars=0", b"vars=0\nrules=1\ninit=1\nprop=1\nrule=r:1\n");
+    show(b"vars=7", b"vars=7\nrules=1\ninit=1\nprop=1\nrule=r:1\n");
+    show(b"vars=8", b"vars=8\nrules=1\ninit=1\nprop=1\nrule=r:1\n");
+    show(b"vars=10", b"vars=10\nrules=1\ninit=1\nprop=1\nrule=r:1\n");
+    show(
+        b"vars=3 and a space",
+        b"vars=3 \nrules=1\ninit=1\nprop=1\nrule=r:1\n",
+    );
+    show(
+        b"vars=3 and a carriage return",
+        b"vars=3\r\nrules=1\ninit=1\nprop=1\nrule=r:1\n",
+    );
+    show(
+        b"vars without =",
+        b"vars3\nrules=1\ninit=1\nprop=1\nrule=r:1\n",
+    );
+}
+
+fn rules_lines() {
+    show(b"rules=", b"vars=1\nrules=\ninit=1\nprop=1\nrule=r:1\n");
+    show(b"rules=0", b"vars=1\nrules=0\ninit=1\nprop=1\nrule=r:1\n");
+    show(b"rules=01", b"vars=1\nrules=01\ninit=1\nprop=1\nrule=r:1\n");
+    show(b"rules=17", b"vars=1\nrules=17\ninit=1\nprop=1\nrule=r:1\n");
+    show(b"rules=1x", b"vars=1\nrules=1x\ninit=1\nprop=1\nrule=r:1\n");
+    show(
+        b"rules=100",
+        b"vars=1\nrules=100\ninit=1\nprop=1\nrule=r:1\n",
+    );
+    show(
+        b"rules=16",
+        b"vars=1\nrules=16\ninit=1\nprop=1\nrule=r0:1\nrule=r1:1\nrule=r2:1\nrule=r3:1\nrule=r4:1\nrule=r5:1\nrule=r6:1\nrule=r7:1\nrule=r8:1\nrule=r9:1\nrule=r10:1\nrule=r11:1\nrule=r12:1\nrule=r13:1\nrule=r14:1\nrule=r15:1\n",
+    );
+}
+
+fn rule_names() {
+    show(
+        b"name of eight",
+        b"vars=1\nrules=1\ninit=1\nprop=1\nrule=abcdefg8:1\n",
+    );
+    show(
+        b"name of nine",
+        b"vars=1\nrules=1\ninit=1\nprop=1\nrule=abcdefghi:1\n",
+    );
+    show(b"empty name", b"vars=1\nrules=1\ninit=1\nprop=1\nrule=:1\n");
+    show(
+        b"capital in a name",
+        b"vars=1\nrules=1\ninit=1\nprop=1\nrule=aB:1\n",
+    );
+    show(b"no colon", b"vars=1\nrules=1\ninit=1\nprop=1\nrule=r\n");
+    show(
+        b"bad name and bad expression",
+        b"vars=1\nrules=1\ninit=1\nprop=1\nrule=R:\n",
+    );
+}
+
+fn repeated_names() {
+    show(
+        b"repeated name",
+        b"vars=1\nrules=2\ninit=1\nprop=1\nrule=r:1\nrule=r:1\n",
+    );
+    show(
+        b"repeated name and bad expression",
+        b"vars=1\nrules=2\ninit=1\nprop=1\nrule=r:1\nrule=r:&\n",
+    );
+    show(
+        b"name that begins another",
+        b"vars=1\nrules=2\ninit=1\nprop=1\nrule=rs:1\nrule=r:1\n",
+    );
+}
+
+fn rule_line_counts() {
+    show(
+        b"fewer rule lines",
+        b"vars=1\nrules=2\ninit=1\nprop=1\nrule=r:1\n",
+    );
+    show(
+        b"a rule line more",
+        b"vars=1\nrules=1\ninit=1\nprop=1\nrule=r:1\nrule=s:1\n",
+    );
+    show(
+        b"one byte follows",
+        b"vars=1\nrules=1\ninit=1\nprop=1\nrule=r:1\nx",
+    );
+    show(
+        b"byte 10 follows",
+        b"vars=1\nrules=1\ninit=1\nprop=1\nrule=r:1\n\n",
+    );
+    show(
+        b"lines in another order",
+        b"rules=1\nvars=1\ninit=1\nprop=1\nrule=r:1\n",
+    );
+}
+
+fn expression_lengths() {
+    show(b"no byte", b"vars=1\nrules=1\ninit=\nprop=1\nrule=r:1\n");
+    show(
+        b"63 times ! and a",
+        b"vars=1\nrules=1\ninit=!!!!!!!!!!!!!!!!!!!!!!!!!!!!!!!!!!!!!!!!!!!!!!!!!!!!!!!!!!!!!!!a\nprop=1\nrule=r:1\n",
+    );
+    show(
+        b"64 times ! and a",
+        b"vars=1\nrules=1\ninit=!!!!!!!!!!!!!!!!!!!!!!!!!!!!!!!!!!!!!!!!!!!!!!!!!!!!!!!!!!!!!!!!a\nprop=1\nrule=r:1\n",
+    );
+    show(
+        b"65 bytes with a wrong one",
+        b"vars=1\nrules=1\ninit=!!!!!!!!!!!!!!!!!!!!!!!!!!!!!!!!!!!!!!!!!!!!!!!!!!!!!!!!!!!!!!!xa\nprop=1\nrule=r:1\n",
+    );
+}
+
+fn expression_bytes() {
+    show(b"byte 0", b"vars=1\nrules=1\ninit=\x00\nprop=1\nrule=r:1\n");
+    show(
+        b"byte 127",
+        b"vars=1\nrules=1\ninit=\x7f\nprop=1\nrule=r:1\n",
+    );
+    show(
+        b"byte 128",
+        b"vars=1\nrules=1\ninit=\x80\nprop=1\nrule=r:1\n",
+    );
+    show(
+        b"byte 255",
+        b"vars=1\nrules=1\ninit=\xff\nprop=1\nrule=r:1\n",
+    );
+    show(b"space", b"vars=1\nrules=1\ninit= a\nprop=1\nrule=r:1\n");
+    show(
+        b"wrong byte behind a wrong letter",
+        b"vars=1\nrules=1\ninit=bx\nprop=1\nrule=r:1\n",
+    );
+    show(b"h", b"vars=1\nrules=1\ninit=h\nprop=1\nrule=r:1\n");
+}
+
+fn expression_letters() {
+    show(b"A in init", b"vars=1\nrules=1\ninit=A\nprop=1\nrule=r:1\n");
+    show(b"A in prop", b"vars=1\nrules=1\ninit=1\nprop=A\nrule=r:1\n");
+    show(
+        b"A in a rule",
+        b"vars=1\nrules=1\ninit=1\nprop=1\nrule=r:A\n",
+    );
+    show(
+        b"b of one letter",
+        b"vars=1\nrules=1\ninit=b\nprop=1\nrule=r:1\n",
+    );
+    show(
+        b"B of one letter",
+        b"vars=1\nrules=1\ninit=1\nprop=1\nrule=r:B\n",
+    );
+    show(
+        b"g of seven letters",
+        b"vars=7\nrules=1\ninit=g\nprop=1\nrule=r:1\n",
+    );
+}
+
+fn expression_forms() {
+    show(
+        b"operand missing",
+        b"vars=1\nrules=1\ninit=&a\nprop=1\nrule=r:1\n",
+    );
+    show(
+        b"two expressions",
+        b"vars=1\nrules=1\ninit=aa\nprop=1\nrule=r:1\n",
+    );
+    show(
+        b"letter before form",
+        b"vars=1\nrules=1\ninit=&b\nprop=1\nrule=r:1\n",
+    );
+    show(
+        b"all operators",
+        b"vars=2\nrules=1\ninit=>&!a|b0=a1\nprop=1\nrule=r:1\n",
+    );
+}
+
+fn main() {
+    whole_texts();
+    vars_lines();
+    rules_lines();
+    rule_names();
+    repeated_names();
+    rule_line_counts();
+    expression_lengths();
+    expression_bytes();
+    expression_letters();
+    expression_forms();
+}
