@@ -49,7 +49,7 @@ packed p = p .number + 256 * p .line + 65536 * p .amount + cond (p .holds) (2 ^ 
 -- ---- the law
 
 -- Each part fits its place in the packed number.
-pub record Fits (p : Parts) : Type 0 where
+pub record InRange (p : Parts) : Type 0 where
   pub number : p .number < 256
   pub line : p .line < 256
   pub amount : p .amount < 2 ^ 24
@@ -66,6 +66,6 @@ flag : (b : Bool) → (cond b (2 ^ 40) 0 ≡ 2 ^ 40 * cond b 1 0) × (cond b 1 0
 flag true = omega arith
 flag false = omega arith
 
-pub unpacked : (p : Parts) → Fits p → Unpacked p (packed p)
+pub unpacked : (p : Parts) → InRange p → Unpacked p (packed p)
 unfolding packed
 unpacked p f = omega (arith, flag (p .holds))

@@ -33,7 +33,7 @@ pub fn classify(b: u8) -> Token
 }
 
 // How many operands follow. A byte that no expression has is given none.
-pub fn operand_count(t: Token) -> usize
+pub(crate) fn operand_count(t: Token) -> usize
     ensures { λ r. ⌜ r ≡ operandCount t ⌝ }
 {
     match t {

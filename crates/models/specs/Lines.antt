@@ -8,6 +8,7 @@ use lib.Dec.{eqb, leb, ltb}
 use lib.ListN.{length, getD, take, drop}
 use Rattle.exprs.specs.Expr.{Expr, size}
 use Rattle.exprs.specs.Reading.{readExpr}
+use Rattle.models.specs.declared.classes.Class.{Class}
 use Rattle.models.specs.declared.classes.Class.the-variants.{InLine, InName, InExpression, Allowed}
 use Rattle.models.specs.declared.lines.Line.{Line}
 use Rattle.models.specs.declared.lines.Line.the-variants.{Fault, Read}
@@ -92,7 +93,7 @@ rulesLine s = cond (isLine rulesKey s) (counted (rulesIn (valueOf rulesKey s)) s
 -- ---- numbers 5 to 8: an expression
 
 -- every byte of e is in the class
-unfoldable pub all : Rattle.models.specs.declared.classes.Class.Class → List ℕ → Bool
+unfoldable pub all : Class → List ℕ → Bool
 unfolding prefix
 all c e = eqb (prefix c e) (length e)
 

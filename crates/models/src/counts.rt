@@ -42,7 +42,7 @@ fn rules_in(v: &[u8]) -> usize
     }
 }
 
-pub fn vars_line(s: &[u8]) -> Line
+pub(crate) fn vars_line(s: &[u8]) -> Line
     ensures { λ r. ⌜ r ≡ varsLine (now (s .entry)) ⌝ }
 {
     let End::At(end) = crate::lines::end_of(b"vars=", s) else {
@@ -55,7 +55,7 @@ pub fn vars_line(s: &[u8]) -> Line
     Line::Read(n, end + 1)
 }
 
-pub fn rules_line(s: &[u8]) -> Line
+pub(crate) fn rules_line(s: &[u8]) -> Line
     ensures { λ r. ⌜ r ≡ rulesLine (now (s .entry)) ⌝ }
 {
     let End::At(end) = crate::lines::end_of(b"rules=", s) else {

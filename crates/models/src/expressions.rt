@@ -18,7 +18,7 @@ fn is_one(e: &[u8]) -> bool
 }
 
 // The number that refuses the expression e in a model of `vars` letters, or 0.
-pub fn fault_in(vars: usize, capitals: bool, e: &[u8]) -> u8
+pub(crate) fn fault_in(vars: usize, capitals: bool, e: &[u8]) -> u8
     ensures { λ r. ⌜ r ≡ faultOf vars capitals (now (e .entry)) ⌝ }
 {
     let n = e.len();
@@ -37,7 +37,7 @@ pub fn fault_in(vars: usize, capitals: bool, e: &[u8]) -> u8
     if is_one(e) { 0 } else { 8 }
 }
 
-pub fn state_line(key: &[u8], vars: usize, s: &[u8]) -> Line
+pub(crate) fn state_line(key: &[u8], vars: usize, s: &[u8]) -> Line
     ensures { λ r. ⌜ r ≡ stateLine (now (key .entry)) vars (now (s .entry)) ⌝ }
 {
     let End::At(end) = crate::lines::end_of(key, s) else {

@@ -11,7 +11,7 @@ pub enum Line {
 }
 
 // The number of the refusal, or 0.
-pub fn fault_number(l: Line) -> u8
+pub(crate) fn fault_number(l: Line) -> u8
     ensures { λ r. ⌜ r ≡ faultNumber l ⌝ }
 {
     match l {
@@ -34,7 +34,7 @@ fn line_length(s: &[u8]) -> usize
 }
 
 // The end of the line that starts with the key. A line with another key is not looked through.
-pub fn end_of(key: &[u8], s: &[u8]) -> End
+pub(crate) fn end_of(key: &[u8], s: &[u8]) -> End
     ensures { λ r. ⌜ r ≡ endOf (now (key .entry)) (now (s .entry)) ⌝ }
 {
     let start = crate::parts::front(s, key.len());

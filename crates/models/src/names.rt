@@ -40,7 +40,7 @@ fn is_taken(text: &[u8], names: [usize; 16], steps: [usize; 16], count: usize, n
 }
 
 // The line at a place of the text, after `count` rules.
-pub fn rule_line(
+pub(crate) fn rule_line(
     text: &[u8],
     at: usize,
     vars: usize,

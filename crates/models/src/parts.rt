@@ -5,7 +5,7 @@ ghost use lib.ListN.{take, drop, getD};
 ghost use Rattle.models.specs.Bytes.{same};
 
 // The first `to` bytes, or all where there are fewer.
-pub fn front(s: &[u8], to: usize) -> &[u8]
+pub(crate) fn front(s: &[u8], to: usize) -> &[u8]
     ensures { λ r. ⌜ now r ≡ take to (now (s .entry)) ⌝ }
 {
     if to < s.len() { &s[..to] } else { s }
@@ -19,7 +19,7 @@ pub fn rest(s: &[u8], from: usize) -> &[u8]
 }
 
 // The bytes from `from` up to `to`, or up to the end where there are fewer.
-pub fn part(s: &[u8], from: usize, to: usize) -> &[u8]
+pub(crate) fn part(s: &[u8], from: usize, to: usize) -> &[u8]
     ensures { λ r. ⌜ now r ≡ take (to - from) (drop from (now (s .entry))) ⌝ }
 {
     if s.len() < to {
@@ -29,14 +29,14 @@ pub fn part(s: &[u8], from: usize, to: usize) -> &[u8]
 }
 
 // The byte at a place, and 0 past the end.
-pub fn byte_at(s: &[u8], at: usize) -> u8
+pub(crate) fn byte_at(s: &[u8], at: usize) -> u8
     ensures { λ r. ⌜ r ≡ getD (now (s .entry)) at 0 ⌝ }
 {
     if at < s.len() { s[at] } else { 0 }
 }
 
 // Whether two slices hold the same bytes.
-pub fn same_bytes(a: &[u8], b: &[u8]) -> bool
+pub(crate) fn same_bytes(a: &[u8], b: &[u8]) -> bool
     ensures { λ r. ⌜ r ≡ same (now (a .entry)) (now (b .entry)) ⌝ }
 {
     if a.len() != b.len() {
