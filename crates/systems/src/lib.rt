@@ -1,1 +1,2 @@
 // Transition systems over states that are numbers: runs, reached states, verdict and trace.
+pub mod tables;

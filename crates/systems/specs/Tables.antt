@@ -1,0 +1,186 @@
+-- The tables of a model, as code holds them: the marks of states, and for each pair of states its mask, the set of the rules that it meets.
+-- The laws read an entry, and say that a pair is a step of a set exactly when the set is a part of its mask. From `Meaning`, and the rules
+-- that a number has. Assumes nothing.
+use Prim.Native.Nat.{ℕ, zero, suc, _+_, _-_, _*_, _/_, _%_, _^_, _≤_, _<_}
+use mathlib.Core.Path.{_≡_, refl, sym, ap, _∙_}
+use mathlib.Core.Logic.{_↔_}
+use mathlib.Core.Bool.{Bool, true, false, cond, _&&_}
+use mathlib.Core.List.{List}
+use mathlib.Core.Option.{Option, none, some}
+use native.Mathlib.Omega.{arith}
+use native.Mathlib.Nat.{pow-suc}
+use borrow.Author.Count.{below-more}
+use borrow.Author.Tests.{lt-ltb}
+use lib.Dec.{eqb, ltb}
+use lib.ListN.{length, getD, drop}
+use lib.Arith.{digits-lt}
+use lib.Bits.{bitAnd}
+use lib.Pow.{high, low, field, mod-mod-pow, pow-mono}
+use Rattle.sets.specs.Bit.{has, has-below}
+use Rattle.sets.specs.Sets.{part, part-iff}
+use Rattle.exprs.specs.declared.value.Valued.{Valued}
+use Rattle.exprs.specs.declared.value.Valued.the-variants.{Value, Unreadable}
+use Rattle.exprs.specs.Expr.{Expr}
+use Rattle.exprs.specs.Reading.{readExpr}
+use Rattle.exprs.specs.Answers.{valueIn, valueOf}
+use Rattle.models.specs.declared.model.Model.{Model}
+use Rattle.systems.specs.Count.{one}
+use Rattle.systems.specs.Meaning.{meets, valueRead, ruleMet, stepOf, step-iff}
+use Rattle.systems.specs.Tabulated.{tabulate, length-tabulate, getD-tabulate}
+
+-- Two tests of which each passes where the other does.
+pub alike : (a b : Bool) → (a ≡ true → b ≡ true) → (b ≡ true → a ≡ true) → a ≡ b
+alike true b f g = sym (f refl)
+alike false true f g = g refl
+alike false false f g = refl
+
+-- ---- the tables
+
+-- The marks of the states below n that pass the test p: 128 entries, false from n on.
+unfoldable pub marksOf : ℕ → (ℕ → Bool) → List Bool
+marksOf n p = tabulate 128 (λ s. ltb s n && p s)
+
+-- The set of those of the first n rules that pass the test p.
+unfoldable pub setOf : ℕ → (ℕ → Bool) → ℕ
+unfolding one
+setOf zero p = 0
+setOf (suc n) p = one (p n) * 2 ^ n + setOf n p
+
+-- The mask of a pair of states: the set of the rules that the pair meets.
+unfoldable pub maskOf : List ℕ → Model → ℕ → ℕ → ℕ
+unfolding setOf ruleMet
+maskOf text m s t = setOf (m .rules) (λ i. ruleMet text m i s t)
+
+-- A table of pairs, 16,384 entries: f s t at 128 * s + t for s below `rows` and t below n, and 0 elsewhere.
+unfoldable pub entryOf : ℕ → ℕ → (ℕ → ℕ → ℕ) → ℕ → ℕ
+entryOf rows n f k = cond (ltb (k / 128) rows && ltb (k % 128) n) (f (k / 128) (k % 128)) 0
+
+unfoldable pub pairsOf : ℕ → ℕ → (ℕ → ℕ → ℕ) → List ℕ
+unfolding entryOf
+pairsOf rows n f = tabulate 16384 (entryOf rows n f)
+
+-- The masks of all pairs of states.
+unfoldable pub masksOf : List ℕ → Model → List ℕ
+unfolding pairsOf maskOf
+masksOf text m = pairsOf (2 ^ m .vars) (2 ^ m .vars) (maskOf text m)
+
+-- ---- an answer of `exprs::value::value`
+
+-- What an answer says of two states; where nothing can be read, that they do not meet it.
+abbrev pub isTrue : Valued → Bool
+isTrue (Value v bytes) = v
+isTrue Unreadable = false
+
+pub value-meets : (text : List ℕ) (at now next : ℕ) → isTrue (valueOf (drop at text) now next) ≡ meets text at now next
+unfolding valueOf valueIn meets valueRead
+value-meets text at now next = go (readExpr (drop at text))
+  where
+    go : (o : Option Expr) → isTrue (valueIn now next o) ≡ valueRead o now next
+    go none = refl
+    go (some e) = refl
+
+-- ---- the marks
+
+module _ (n : ℕ) (p : ℕ → Bool) where
+  pub length-marks : length (marksOf n p) ≡ 128
+  unfolding marksOf
+  length-marks = length-tabulate 128 (λ s. ltb s n && p s)
+
+  -- The mark of a state.
+  pub mark-at : (s : ℕ) → s < n → n ≤ 128 → getD (marksOf n p) s false ≡ p s
+  unfolding marksOf
+  mark-at s h b = getD-tabulate 128 (λ s. ltb s n && p s) false s (omega arith) ∙ rw (lt-ltb s n h)
+
+-- ---- the masks
+
+pub one-lt : (b : Bool) → one b < 2
+unfolding one
+one-lt true = omega arith
+one-lt false = omega arith
+
+one-is : (b : Bool) → eqb (one b % 2) 1 ≡ b
+unfolding one
+one-is true = refl
+one-is false = refl
+
+-- Rules from n on make no difference to a rule below n.
+has-low : (n S i : ℕ) → i < n → has (S % 2 ^ n) i ≡ has S i
+unfolding has
+has-low n S i h =
+    let e : n ≡ n - suc i + (1 + i) = omega arith in
+    ap (λ (x : ℕ). eqb x 1) (sym (field (S % 2 ^ n) 1 i) ∙ ap (λ (x : ℕ). x / 2 ^ i) (rw (e, mod-mod-pow)) ∙ field S 1 i)
+
+pub setOf-lt : (n : ℕ) (p : ℕ → Bool) → setOf n p < 2 ^ n
+unfolding setOf
+setOf-lt zero p = omega arith
+setOf-lt (suc n) p = omega (arith, digits-lt (one-lt (p n)) (setOf-lt n p), pow-suc 2 n)
+
+-- Of the first n rules, the set has those that pass the test.
+pub has-setOf : (n : ℕ) (p : ℕ → Bool) (i : ℕ) → i < n → has (setOf n p) i ≡ p i
+unfolding setOf has
+has-setOf zero p i h = absurd (omega arith)
+has-setOf (suc n) p i h =
+    below-more (λ (i : ℕ). has (setOf (suc n) p) i ≡ p i) n
+    (λ i l.
+    sym (has-low n (setOf (suc n) p) i l)
+    ∙ ap (λ (S : ℕ). has S i) (low (one (p n)) n (setOf-lt n p))
+    ∙ has-setOf n p i l)
+    (ap (λ (x : ℕ). eqb (x % 2) 1) (high (one (p n)) n (setOf-lt n p)) ∙ one-is (p n))
+    i
+    (omega arith)
+
+module _ (text : List ℕ) (m : Model) (s t : ℕ) where
+  pub mask-lt : maskOf text m s t < 2 ^ m .rules
+  unfolding maskOf
+  mask-lt = setOf-lt (m .rules) (λ i. ruleMet text m i s t)
+
+  -- The mask has the rules that the pair meets.
+  pub has-mask : (i : ℕ) → (has (maskOf text m s t) i ≡ true) ↔ ((i < m .rules) × (ruleMet text m i s t ≡ true))
+  unfolding maskOf
+  has-mask i = (
+    λ e. let h = has-below (m .rules) (maskOf text m s t) i mask-lt e in (h, sym (at h) ∙ e),
+    λ h. at (h .0) ∙ h .1,
+  )
+    where
+      at : i < m .rules → has (maskOf text m s t) i ≡ ruleMet text m i s t
+      at h = has-setOf (m .rules) (λ i. ruleMet text m i s t) i h
+
+  -- A pair is a step of a set exactly when it meets every rule of the set.
+  pub step-mask : (S : ℕ) → S < 2 ^ m .rules → stepOf text m S s t ≡ eqb (bitAnd S (maskOf text m s t)) S
+  unfolding part
+  step-mask S h =
+      alike (stepOf text m S s t) (part S (maskOf text m s t))
+      (λ e. part-iff S (maskOf text m s t) .1 (record {
+        every = λ i b.
+            let l = has-below (m .rules) S i h b in
+            has-mask i .1 (l, step-iff text m S s t .0 e i l b);
+      }))
+      (λ e. step-iff text m S s t .1 (λ i _ b. has-mask i .0 (part-iff S (maskOf text m s t) .0 e .every i b) .1))
+
+-- ---- a table of pairs
+
+module _ (rows n : ℕ) (f : ℕ → ℕ → ℕ) where
+  pub length-pairs : length (pairsOf rows n f) ≡ 16384
+  unfolding pairsOf
+  length-pairs = length-tabulate 16384 (entryOf rows n f)
+
+  pub entry-at : (s t : ℕ) → s < rows → t < n → n ≤ 128 → entryOf rows n f (128 * s + t) ≡ f s t
+  unfolding entryOf
+  entry-at s t a b c =
+      let e : (128 * s + t) / 128 ≡ s = omega arith in
+      let g : (128 * s + t) % 128 ≡ t = omega arith in
+      rw (e, g, lt-ltb s rows a, lt-ltb t n b)
+
+  pub pair-at : (s t : ℕ) → s < rows → rows ≤ 128 → t < n → n ≤ 128 → getD (pairsOf rows n f) (128 * s + t) 0 ≡ f s t
+  unfolding pairsOf
+  pair-at s t a b c d = getD-tabulate 16384 (entryOf rows n f) 0 (128 * s + t) (omega arith) ∙ entry-at s t a c d
+
+module _ (text : List ℕ) (m : Model) where
+  pub length-masks : length (masksOf text m) ≡ 16384
+  unfolding masksOf
+  length-masks = length-pairs (2 ^ m .vars) (2 ^ m .vars) (maskOf text m)
+
+  -- The entry of a pair of states is its mask.
+  pub mask-at : (s t : ℕ) → m .vars ≤ 7 → s < 2 ^ m .vars → t < 2 ^ m .vars → getD (masksOf text m) (128 * s + t) 0 ≡ maskOf text m s t
+  unfolding masksOf
+  mask-at s t v a b = let few : 2 ^ m .vars ≤ 128 = pow-mono v in pair-at (2 ^ m .vars) (2 ^ m .vars) (maskOf text m) s t a few b few
