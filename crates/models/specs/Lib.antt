@@ -3,3 +3,7 @@ pub mod Bytes
 pub mod Lines
 pub mod Reading
 pub mod Ranges
+pub mod Written
+pub mod BytesLaws
+pub mod LinesLaws
+pub mod WrittenLaws
