@@ -1,7 +1,7 @@
 -- Laws of classes of bytes and of equal texts: what a prefix ends at, which lists are in a class throughout, and that `same` tells equal lists.
 -- From the definitions of `Bytes` and `all` of `Lines`, by induction on the lists.
-use Prim.Native.Nat.{ℕ, zero, suc, _+_, _<_}
-use mathlib.Core.Path.{_≡_, refl, sym, ap, ap₂, _∙_, subst}
+use Prim.Native.Nat.{ℕ, suc, _+_, _<_}
+use mathlib.Core.Path.{_≡_, refl, sym, ap, ap₂, _∙_}
 use mathlib.Core.Bool.{Bool, true, false, cond, not, _&&_, and-assoc, and-eq-true-iff, false≢true}
 use mathlib.Mathlib.Data.Bool.Basic.{eq-false-of-not-eq-true}
 use mathlib.Core.List.{List, [], _∷_, _++_}

@@ -1,31 +1,27 @@
 -- Each line of a model text is read exactly where it is written: a legal line is read as what it says with its number of bytes, whatever
 -- follows it, and a line that is read is the written form of something legal. From the definitions of `Lines` and `Written`, by the laws of
 -- bytes and of reading an expression.
-use Prim.Native.Nat.{ℕ, zero, suc, _+_, _-_, _*_, _/_, _%_, _≤_, _<_}
-use mathlib.Core.Path.{_≡_, refl, sym, ap, ap₂, _∙_, subst}
-use mathlib.Core.Bool.{Bool, true, false, cond, not, _&&_, and-eq-true-iff, false≢true}
-use mathlib.Mathlib.Data.Bool.Basic.{eq-true-of-not-eq-false}
-use mathlib.Core.List.{List, [], _∷_, _++_, append-nil, append-assoc}
-use mathlib.Core.Option.{Option, none, some}
+use Prim.Native.Nat.{ℕ, zero, suc, _+_, _-_, _/_, _%_, _≤_, _<_}
+use mathlib.Core.Path.{_≡_, refl, sym, ap, ap₂, _∙_}
+use mathlib.Core.Logic.{_≢_}
+use mathlib.Core.Bool.{Bool, true, false, cond, not, _&&_, and-eq-true-iff}
+use mathlib.Core.List.{List, [], _∷_, _++_, append-assoc}
 use native.Mathlib.Omega.{arith}
 use native.Mathlib.Numerals.{add-one}
-use borrow.Author.Tests.{eq-eqb, ne-eqb, eqb-true, lt-ltb, le-ltb, ltb-true, ltb-false, le-leb, lt-leb, leb-true, not-false}
+use borrow.Author.Tests.{eq-eqb, ne-eqb, eqb-true, lt-ltb, le-ltb, ltb-true, ltb-false, le-leb, leb-true, not-false}
 use lib.Dec.{eqb, leb, ltb}
-use lib.ListN.{length, getD, take, drop, length-append, take-append-drop, List·getD-eq-default}
+use lib.ListN.{length, getD, take, drop, length-append, take-append-drop}
 use lib.Seq.{take-append-seam, getD-append-seam, drop-append-seam, drop-append-add, split-at, length-take-le}
 use Rattle.sets.specs.Choice.{by-test}
-use Rattle.exprs.specs.Expr.{Expr, constant, bitNow, bitNext, negation, conjunction, disjunction, implication, equivalence, written, size, Letters}
-use Rattle.exprs.specs.Token.{tokenOf}
-use Rattle.exprs.specs.Reading.{readExpr}
-use Rattle.exprs.specs.ReadingLaws.{back-now, back-next, reads-what-is-written}
-use Rattle.models.specs.declared.classes.Class.{Class}
-use Rattle.models.specs.declared.classes.Class.the-variants.{InLine, InName, InExpression, Allowed}
+use Rattle.exprs.specs.Expr.{written}
+use Rattle.models.specs.declared.classes.Class.the-variants.{InLine, InName}
 use Rattle.models.specs.declared.lines.Line.{Line}
 use Rattle.models.specs.declared.lines.Line.the-variants.{Fault, Read}
-use Rattle.models.specs.Bytes.{isToken, allowed, belongs, prefix, same}
-use Rattle.models.specs.Lines.{varsKey, rulesKey, initKey, propKey, ruleKey, lineLength, isLine, valueOf, says, varsIn, rulesIn, counted, varsLine, rulesLine, all, isSize, isOne, faultOf, withFault, stateLine, isNamed, ruleLine}
-use Rattle.models.specs.Written.{Rule, Within, Small, LegalExpr, LegalRule, line, decimal, writtenRule}
-use Rattle.models.specs.BytesLaws.{all-nil, all-append, all-parts, all-more, all-in-line, prefix-all, prefix-seam, all-prefix, prefix-ends, same-true, same-is}
+use Rattle.models.specs.Bytes.{belongs, prefix, same}
+use Rattle.models.specs.Lines.{varsKey, rulesKey, initKey, propKey, ruleKey, lineLength, isLine, valueOf, says, varsIn, rulesIn, counted, varsLine, rulesLine, all, faultOf, withFault, stateLine, isNamed, ruleLine}
+use Rattle.models.specs.Written.{Rule, Within, LegalExpr, LegalRule, line, decimal, writtenRule}
+use Rattle.models.specs.ExpressionsLaws.{fault-there, fault-back, legal-in-line}
+use Rattle.models.specs.BytesLaws.{all-nil, all-append, all-more, all-in-line, prefix-all, prefix-seam, all-prefix, prefix-ends, same-true, same-is}
 
 -- A reader of lines accepts the written forms of the legal x, whatever follows, and no other text.
 pub record Reads {X : Type 0} (Lawful : X → Type 0) (form : X → List ℕ) (says : X → ℕ) (read : List ℕ → Line) : Type 0 where
@@ -48,19 +44,19 @@ free false l number q = (refl, q)
 record Begins (key value s : List ℕ) : Type 0 where
   is : isLine key s ≡ true
   value-is : valueOf key s ≡ value
-  bytes : lineLength s + 1 ≡ length (line key value)
+  says-is : (v : ℕ) → says v s ≡ Read v (length (line key value))
 
 pub line-append : (key value rest : List ℕ) → line key value ++ rest ≡ key ++ (value ++ 10 ∷ rest)
 unfolding line
 line-append key value rest = append-assoc key (value ++ 10 ∷ []) rest ∙ ap (λ r. key ++ r) (append-assoc value (10 ∷ []) rest)
 
-length-line : (key value : List ℕ) → length (line key value) ≡ length key + length value + 1
+pub length-line : (key value : List ℕ) → length (line key value) ≡ length key + length value + 1
 unfolding line
 length-line key value = omega (arith, length-append key (value ++ 10 ∷ []), length-append value (10 ∷ []))
 
 module _ (key : List ℕ) (k : all InLine key ≡ true) where
   line-there : (value rest : List ℕ) → all InLine value ≡ true → Begins key value (line key value ++ rest)
-  unfolding isLine valueOf belongs
+  unfolding isLine valueOf says belongs
   line-there value rest e =
       let t : List ℕ = value ++ 10 ∷ rest in
       let s : List ℕ = line key value ++ rest in
@@ -69,9 +65,9 @@ module _ (key : List ℕ) (k : all InLine key ≡ true) where
       let n : lineLength s - length key ≡ length value = omega arith in
       record {
         is = ap₂ _&&_ (same-true (take (length key) s) key (ap (take (length key)) q ∙ take-append-seam key t))
-          (lt-ltb (lineLength s) (length s) (omega (arith, length-append (line key value) rest, length-line key value)));
+            (lt-ltb (lineLength s) (length s) (omega (arith, length-append (line key value) rest, length-line key value)));
         value-is = ap₂ take n (ap (drop (length key)) q ∙ drop-append-seam key t) ∙ take-append-seam value (10 ∷ rest);
-        bytes = omega (arith, length-line key value);
+        says-is = λ v. ap (Read v) (omega (arith, length-line key value));
       }
 
   line-back : (s : List ℕ) → isLine key s ≡ true → (rest : List ℕ) × (s ≡ line key (valueOf key s) ++ rest)
@@ -88,8 +84,8 @@ module _ (key : List ℕ) (k : all InLine key ≡ true) where
       let v : take p t ≡ valueOf key s = ap (λ m. take m t) n in (
         drop (suc p) t,
         q
-        ∙ ap (λ r. key ++ r) (split-at t p 0 within ∙ ap₂ (λ x b. x ++ b ∷ drop (suc p) t) v ten)
-        ∙ sym (line-append key (valueOf key s) (drop (suc p) t)),
+            ∙ ap (λ r. key ++ r) (split-at t p 0 within ∙ ap₂ (λ x b. x ++ b ∷ drop (suc p) t) v ten)
+            ∙ sym (line-append key (valueOf key s) (drop (suc p) t)),
       )
 
 -- ---- the counts
@@ -99,17 +95,17 @@ record Counts (countIn : List ℕ → ℕ) (most : ℕ) : Type 0 where
   there : (n : ℕ) → Within 1 most n → countIn (decimal n) ≡ n
   back : (v : List ℕ) (n : ℕ) → countIn v ≡ suc n → (suc n ≤ most) × (v ≡ decimal (suc n))
 
-counted-there : (n : ℕ) (s : List ℕ) → 1 ≤ n → counted n s ≡ Read n (lineLength s + 1)
-unfolding counted says
-counted-there zero s h = absurd (omega arith)
-counted-there (suc n) s h = refl
+pub counted-more : (n : ℕ) (s : List ℕ) → n ≢ 0 → counted n s ≡ says n s
+unfolding counted
+counted-more zero s h = absurd (h refl)
+counted-more (suc n) s h = refl
 
 counted-back : (n : ℕ) (s : List ℕ) {v bytes : ℕ} → counted n s ≡ Read v bytes → (m : ℕ) × (n ≡ suc m)
 unfolding counted says
 counted-back zero s h = let z : _≡_ {A = ℕ} 0 1 = cc in absurd (omega arith)
 counted-back (suc n) s h = (n, refl)
 
-decimal-one : (n : ℕ) → n < 10 → decimal n ≡ (48 + n) ∷ []
+pub decimal-one : (n : ℕ) → n < 10 → decimal n ≡ (48 + n) ∷ []
 unfolding decimal
 decimal-one n h = rw (lt-ltb n 10 h)
 
@@ -146,7 +142,7 @@ count-reads key k countIn most c = record {
   there = λ n w rest.
       let s = line key (decimal n) ++ rest in
       let b = line-there key k (decimal n) rest (decimal-in-line n) in
-      rw (b .is, b .value-is, c .there n w) (counted-there n s (w .atLeast) ∙ ap (Read n) (b .bytes));
+      rw (b .is, b .value-is, c .there n w) (counted-more n s (omega arith) ∙ b .says-is n);
   back = λ s v bytes q.
       let l = passed (isLine key s) _ _ q in
       let m = counted-back (countIn (valueOf key s)) s (l .1) in
@@ -184,6 +180,7 @@ rules-count = record {
         let range = and-eq-true-iff (leb 48 c) (leb c 54) .0 (both .1) in
         (eqb-true b 49 (both .0), leb-true 48 c (range .0), leb-true c 54 (range .1), sym q))
         (λ _ q. absurd (omega arith))
+
     back : (v : List ℕ) (n : ℕ) → rulesIn v ≡ suc n → (suc n ≤ 16) × (v ≡ decimal (suc n))
     back [] n q = absurd (omega arith)
     back (b ∷ []) n q = let d = digit-back 57 b n q in (omega arith, ap (λ x. x ∷ []) (d .0) ∙ sym (decimal-one (suc n) (omega arith)))
@@ -202,142 +199,10 @@ pub rules-reads : Reads (Within 1 16) (λ n. line rulesKey (decimal n)) (λ n. n
 unfolding rulesLine all prefix belongs
 rules-reads = count-reads rulesKey refl rulesIn 16 rules-count
 
--- ---- the bytes of an expression
-
-all-two : (c : Class) (o : ℕ) (s t : List ℕ) → belongs c o ≡ true → all c s ≡ true → all c t ≡ true → all c (o ∷ s ++ t) ≡ true
-all-two c o s t p q r = all-more c o (s ++ t) p (all-append c s t ∙ ap₂ _&&_ q r)
-
-all-two-parts : (c : Class) (o : ℕ) (s t : List ℕ) → all c (o ∷ s ++ t) ≡ true → (all c s ≡ true) × (all c t ≡ true)
-all-two-parts c o s t e = and-eq-true-iff (all c s) (all c t) .0 (sym (all-append c s t) ∙ all-parts c o (s ++ t) e .1)
-
-in-expression : (e : Expr) → Letters 7 e → all InExpression (written e) ≡ true
-unfolding written belongs tokenOf
-in-expression (constant false) l = all-more InExpression 48 [] refl (all-nil InExpression)
-in-expression (constant true) l = all-more InExpression 49 [] refl (all-nil InExpression)
-in-expression (bitNow i) l = all-more InExpression (97 + i) [] (ap isToken (back-now i l)) (all-nil InExpression)
-in-expression (bitNext i) l = all-more InExpression (65 + i) [] (ap isToken (back-next i l)) (all-nil InExpression)
-in-expression (negation e) l = all-more InExpression 33 (written e) refl (in-expression e l)
-in-expression (conjunction d e) l = all-two InExpression 38 (written d) (written e) refl (in-expression d (l .0)) (in-expression e (l .1))
-in-expression (disjunction d e) l = all-two InExpression 124 (written d) (written e) refl (in-expression d (l .0)) (in-expression e (l .1))
-in-expression (implication d e) l = all-two InExpression 62 (written d) (written e) refl (in-expression d (l .0)) (in-expression e (l .1))
-in-expression (equivalence d e) l = all-two InExpression 61 (written d) (written e) refl (in-expression d (l .0)) (in-expression e (l .1))
-
-pub letters-more : (m n : ℕ) → m ≤ n → (e : Expr) → Letters m e → Letters n e
-letters-more m n h (constant v) l = tt
-letters-more m n h (bitNow i) l = omega arith
-letters-more m n h (bitNext i) l = omega arith
-letters-more m n h (negation e) l = letters-more m n h e l
-letters-more m n h (conjunction d e) l = (letters-more m n h d (l .0), letters-more m n h e (l .1))
-letters-more m n h (disjunction d e) l = (letters-more m n h d (l .0), letters-more m n h e (l .1))
-letters-more m n h (implication d e) l = (letters-more m n h d (l .0), letters-more m n h e (l .1))
-letters-more m n h (equivalence d e) l = (letters-more m n h d (l .0), letters-more m n h e (l .1))
-
-module _ (n : ℕ) (capitals : Bool) where
-  -- the letters of an expression that stands where capital letters may or may not
-  Fits : Expr → Type 0
-  Fits e = Letters n e × (capitals ≡ false → Small e)
-
-  fit-two : (d e : Expr) → Fits d → Fits e → Fits (conjunction d e)
-  unfolding Fits
-  fit-two d e f g = ((f .0, g .0), λ q. (f .1 q, g .1 q))
-
-  allowed-there : (e : Expr) → Letters 7 e → Letters n e → (capitals ≡ false → Small e) → all (Allowed n capitals) (written e) ≡ true
-  unfolding written belongs tokenOf
-  allowed-there (constant false) k l s = all-more (Allowed n capitals) 48 [] refl (all-nil _)
-  allowed-there (constant true) k l s = all-more (Allowed n capitals) 49 [] refl (all-nil _)
-  allowed-there (bitNow i) k l s = all-more (Allowed n capitals) (97 + i) [] (ap (allowed n capitals) (back-now i k) ∙ lt-ltb i n l) (all-nil _)
-  allowed-there (bitNext i) k l s =
-      all-more (Allowed n capitals) (65 + i) [] (ap (allowed n capitals) (back-next i k) ∙ ap₂ _&&_ (eq-true-of-not-eq-false s) (lt-ltb i n l)) (all-nil _)
-  allowed-there (negation e) k l s = all-more (Allowed n capitals) 33 (written e) refl (allowed-there e k l s)
-  allowed-there (conjunction d e) k l s =
-      all-two (Allowed n capitals) 38 (written d) (written e) refl (allowed-there d (k .0) (l .0) (λ q. s q .0)) (allowed-there e (k .1) (l .1) (λ q. s q .1))
-  allowed-there (disjunction d e) k l s =
-      all-two (Allowed n capitals) 124 (written d) (written e) refl (allowed-there d (k .0) (l .0) (λ q. s q .0)) (allowed-there e (k .1) (l .1) (λ q. s q .1))
-  allowed-there (implication d e) k l s =
-      all-two (Allowed n capitals) 62 (written d) (written e) refl (allowed-there d (k .0) (l .0) (λ q. s q .0)) (allowed-there e (k .1) (l .1) (λ q. s q .1))
-  allowed-there (equivalence d e) k l s =
-      all-two (Allowed n capitals) 61 (written d) (written e) refl (allowed-there d (k .0) (l .0) (λ q. s q .0)) (allowed-there e (k .1) (l .1) (λ q. s q .1))
-
-  allowed-back : (e : Expr) → Letters 7 e → all (Allowed n capitals) (written e) ≡ true → Letters n e × (capitals ≡ false → Small e)
-  unfolding written belongs Fits
-  allowed-back (constant v) k a = (tt, λ _. tt)
-  allowed-back (bitNow i) k a =
-      (ltb-true i n (sym (ap (allowed n capitals) (back-now i k)) ∙ all-parts (Allowed n capitals) (97 + i) [] a .0), λ _. tt)
-  allowed-back (bitNext i) k a =
-      let both = and-eq-true-iff capitals (ltb i n) .0 (sym (ap (allowed n capitals) (back-next i k)) ∙ all-parts (Allowed n capitals) (65 + i) [] a .0) in
-      (ltb-true i n (both .1), λ q. false≢true (sym q ∙ both .0))
-  allowed-back (negation e) k a = allowed-back e k (all-parts (Allowed n capitals) 33 (written e) a .1)
-  allowed-back (conjunction d e) k a =
-      let p = all-two-parts (Allowed n capitals) 38 (written d) (written e) a in fit-two d e (allowed-back d (k .0) (p .0)) (allowed-back e (k .1) (p .1))
-  allowed-back (disjunction d e) k a =
-      let p = all-two-parts (Allowed n capitals) 124 (written d) (written e) a in fit-two d e (allowed-back d (k .0) (p .0)) (allowed-back e (k .1) (p .1))
-  allowed-back (implication d e) k a =
-      let p = all-two-parts (Allowed n capitals) 62 (written d) (written e) a in fit-two d e (allowed-back d (k .0) (p .0)) (allowed-back e (k .1) (p .1))
-  allowed-back (equivalence d e) k a =
-      let p = all-two-parts (Allowed n capitals) 61 (written d) (written e) a in fit-two d e (allowed-back d (k .0) (p .0)) (allowed-back e (k .1) (p .1))
-
--- ---- an expression
-
-size-pos : (e : Expr) → 1 ≤ size e
-unfolding size written
-size-pos (constant v) = omega arith
-size-pos (bitNow i) = omega arith
-size-pos (bitNext i) = omega arith
-size-pos (negation e) = omega arith
-size-pos (conjunction d e) = omega arith
-size-pos (disjunction d e) = omega arith
-size-pos (implication d e) = omega arith
-size-pos (equivalence d e) = omega arith
-
-one-there : (e : Expr) → Letters 7 e → isOne (written e) ≡ true
-unfolding isOne isSize size
-one-there e l = rw (reads-what-is-written (written e) e .1 (l, ([], sym (append-nil (written e))))) (eq-eqb (size e) (length (written e)) refl)
-
-one-back : (s : List ℕ) → isOne s ≡ true → (e : Expr) × Letters 7 e × (s ≡ written e)
-unfolding isOne isSize size
-one-back s q = go (readExpr s) refl q
-  where
-    nothing : (l : List ℕ) → length l ≡ 0 → l ≡ []
-    nothing [] h = refl
-    nothing (x ∷ l) h = absurd (omega arith)
-    go : (o : Option Expr) → readExpr s ≡ o → isSize o (length s) ≡ true → (e : Expr) × Letters 7 e × (s ≡ written e)
-    go none p h = absurd (false≢true h)
-    go (some e) p h =
-        let r = reads-what-is-written s e .0 p in
-        let rest : List ℕ = r .1 .0 in
-        let empty : rest ≡ [] = nothing rest (omega (arith, eqb-true (size e) (length s) h, ap length (r .1 .1), length-append (written e) rest)) in
-        (e, r .0, r .1 .1 ∙ ap (λ x. written e ++ x) empty ∙ append-nil (written e))
-
-unrefused : (t : Bool) (x number : ℕ) → cond t x (suc number) ≡ 0 → (t ≡ true) × (x ≡ 0)
-unrefused true x number q = (refl, q)
-unrefused false x number q = absurd (omega arith)
-
-fault-there : (n : ℕ) (capitals : Bool) (e : Expr) → n ≤ 7 → LegalExpr n capitals e → faultOf n capitals (written e) ≡ 0
-unfolding faultOf size
-fault-there n capitals e h l =
-    let k : Letters 7 e = letters-more n 7 h e (l .letters) in
-    rw (le-leb 1 (length (written e)) (size-pos e), le-leb (length (written e)) 64 (l .bytes), in-expression e k, allowed-there n capitals e k (l .letters) (l .small), one-there e k)
-
-fault-back : (n : ℕ) (capitals : Bool) (s : List ℕ) → faultOf n capitals s ≡ 0 → (e : Expr) × LegalExpr n capitals e × (s ≡ written e)
-unfolding faultOf size
-fault-back n capitals s q =
-    let a = unrefused (leb 1 (length s) && leb (length s) 64) _ 4 q in
-    let b = unrefused (all InExpression s) _ 5 (a .1) in
-    let c = unrefused (all (Allowed n capitals) s) _ 6 (b .1) in
-    let d = unrefused (isOne s) _ 7 (c .1) in
-    let o = one-back s (d .0) in
-    let f = allowed-back n capitals (o .0) (o .1) (ap (all (Allowed n capitals)) (sym (o .2)) ∙ c .0) in
-    let most = leb-true (length s) 64 (and-eq-true-iff (leb 1 (length s)) (leb (length s) 64) .0 (a .0) .1) in
-    (o .0, record { bytes = omega (arith, ap length (o .2)); letters = f .0; small = f .1 }, o .2)
-
 -- ---- the lines with an expression
 
-legal-in-line : (n : ℕ) (capitals : Bool) (e : Expr) → n ≤ 7 → LegalExpr n capitals e → all InLine (written e) ≡ true
-unfolding belongs tokenOf
-legal-in-line n capitals e h l = all-in-line InExpression refl (written e) (in-expression e (letters-more n 7 h e (l .letters)))
-
-unfaulted : (number place : ℕ) (s : List ℕ) → number ≡ 0 → withFault number place s ≡ Read place (lineLength s + 1)
-unfolding withFault says
+pub unfaulted : (number place : ℕ) (s : List ℕ) → number ≡ 0 → withFault number place s ≡ says place s
+unfolding withFault
 unfaulted number place s z = rw z
 
 withFault-back : (number place : ℕ) (s : List ℕ) {v bytes : ℕ} → withFault number place s ≡ Read v bytes → number ≡ 0
@@ -351,7 +216,7 @@ state-reads key k n h = record {
   there = λ e l rest.
       let s = line key (written e) ++ rest in
       let b = line-there key k (written e) rest (legal-in-line n false e h l) in
-      rw (b .is, b .value-is) (unfaulted (faultOf n false (written e)) (length key) s (fault-there n false e h l) ∙ ap (Read (length key)) (b .bytes));
+      rw (b .is, b .value-is) (unfaulted (faultOf n false (written e)) (length key) s (fault-there n false e h l) ∙ b .says-is (length key));
   back = λ s v bytes q.
       let l = passed (isLine key s) _ _ q in
       let f = fault-back n false (valueOf key s) (withFault-back (faultOf n false (valueOf key s)) (length key) s (l .1)) in
@@ -446,7 +311,7 @@ rule-reads n h taken = record {
       let m = named-there (r .name) (written (r .step)) (l .0 .nameLength) (l .0 .nameBytes) in
       rule-is n taken s
       ∙ rw (b .is, b .value-is, m .is, m .name-is, l .1, m .step-is, m .bytes)
-        (unfaulted (faultOf n true (written (r .step))) (6 + length (r .name)) s (fault-there n true (r .step) h (l .0 .step)) ∙ ap (Read (6 + length (r .name))) (b .bytes));
+      (unfaulted (faultOf n true (written (r .step))) (6 + length (r .name)) s (fault-there n true (r .step) h (l .0 .step)) ∙ b .says-is (6 + length (r .name)));
   back = λ s place bytes q.
       let v = valueOf ruleKey s in
       let k = prefix InName v in

@@ -1,20 +1,18 @@
--- The reading is the right one: a text is accepted exactly if it is the written form of a legal model, and then each part of the model is found
--- at the place that the reading gives for it. From the laws of the lines, along the lines of the text and by induction on the rules.
-use Prim.Native.Nat.{ℕ, zero, suc, _+_, _-_, _≤_, _<_}
-use mathlib.Core.Path.{_≡_, refl, sym, ap, ap₂, _∙_, subst, subst₂}
-use mathlib.Core.Logic.{_↔_, _≢_}
-use mathlib.Core.Bool.{Bool, true, false, cond, _||_, false≢true}
-use mathlib.Mathlib.Data.Bool.Basic.{or-eq-false-eq-eq-false-and-eq-false}
+-- The reading is the right one: a text is accepted exactly when it is the written form of a legal model, and then each part of the model is
+-- found at the place that the reading gives for it. From the laws of the lines, along the lines of the text.
+use Prim.Native.Nat.{ℕ, suc, _+_, _*_, _/_, _%_, _≤_, _<_}
+use mathlib.Core.Path.{_≡_, refl, sym, ap, ap₂, _∙_, subst}
+use mathlib.Core.Logic.{_↔_}
+use mathlib.Core.Bool.{Bool, true, false, cond, not, _&&_, _||_, Bool·beq}
 use mathlib.Core.List.{List, [], _∷_, _++_, append-nil, append-assoc, flatMap}
-use mathlib.Core.Option.{some}
+use mathlib.Core.Option.{some, Option·some-injective}
 use native.Mathlib.Omega.{arith}
-use native.Mathlib.Decide.{decLt}
-use borrow.Author.Tests.{eq-eqb, eqb-true, eqb-false, le-ltb, ltb-false}
+use borrow.Author.Tests.{eq-eqb, eqb-true, le-ltb, ltb-false}
 use lib.Dec.{eqb, ltb}
-use lib.ListN.{length, getD, take, drop, set, length-append, take-append-drop, length-set, length-replicate, List·getD-append, drop-of-length-le}
-use lib.Seq.{take-all, take-suc, drop-cons, take-append-seam, drop-append-seam, drop-at, drop-drop, getD-append-seam, getD-set-same, getD-set-other, getD-take, length-take-le}
+use lib.ListN.{length, getD, drop, length-append, drop-of-length-le}
+use lib.Seq.{take-all, drop-append-seam, ext-getD}
 use Rattle.sets.specs.Choice.{by-test}
-use Rattle.exprs.specs.Expr.{Expr, constant, written, Letters}
+use Rattle.exprs.specs.Expr.{Expr, constant, bitNow, bitNext, negation, conjunction, disjunction, implication, equivalence, value, written, size}
 use Rattle.exprs.specs.Reading.{readExpr}
 use Rattle.exprs.specs.ReadingLaws.{reads-what-is-written}
 use Rattle.models.specs.declared.lines.Line.{Line}
@@ -23,241 +21,12 @@ use Rattle.models.specs.declared.model.Model.{Model}
 use Rattle.models.specs.declared.model.Outcome.the-variants.{Accepted}
 use Rattle.models.specs.declared.model.Reading.{Reading}
 use Rattle.models.specs.declared.model.Rules.{Rules}
-use Rattle.models.specs.Bytes.{same}
-use Rattle.models.specs.Lines.{varsKey, rulesKey, initKey, propKey, ruleKey, varsLine, rulesLine, stateLine, ruleLine, nameOf, isTaken}
-use Rattle.models.specs.Reading.{noRules, withRule, ruled, nextRule, rulesRead, refused, onLine, finished, readModel}
-use Rattle.models.specs.Ranges.{Heard, fault, said, rule-heard}
-use Rattle.models.specs.Written.{Rule, Described, ruleAt, Within, LegalExpr, LegalRule, Legal, line, decimal, writtenRule, writtenModel}
-use Rattle.models.specs.BytesLaws.{same-true, same-false}
-use Rattle.models.specs.LinesLaws.{Reads, vars-reads, rules-reads, init-reads, prop-reads, rule-reads, line-append, letters-more}
-
--- ---- lists with one more element
-
--- what is true of each element and of one more is true of each
-at-more : {A : Type 0} (P : ℕ → A → Type 0) (d : A) (l : List A) (a : A) → ((j : ℕ) → j < length l → P j (getD l j d)) → P (length l) a
-    → (j : ℕ) → j < length (l ++ a ∷ []) → P j (getD (l ++ a ∷ []) j d)
-at-more P d l a f p j h = go (decLt j (length l))
-  where
-    go : Dec (j < length l) → P j (getD (l ++ a ∷ []) j d)
-    go (yes k) = rw (List·getD-append l (a ∷ []) d j k) (f j k)
-    go (no k) =
-        let q : j ≡ length l = omega (arith, length-append l (a ∷ [])) in
-        rw (q, getD-append-seam l a [] d) p
-
-flatMap-append : {A : Type 0} (f : A → List ℕ) (s t : List A) → flatMap f (s ++ t) ≡ flatMap f s ++ flatMap f t
-unfolding flatMap
-flatMap-append f [] t = refl
-flatMap-append f (x ∷ s) t = ap (λ r. f x ++ r) (flatMap-append f s t) ∙ sym (append-assoc (f x) (flatMap f s) (flatMap f t))
-
-flatMap-more : {A : Type 0} (f : A → List ℕ) (s : List A) (a : A) → flatMap f (s ++ a ∷ []) ≡ flatMap f s ++ f a
-unfolding flatMap
-flatMap-more f s a = flatMap-append f s (a ∷ []) ∙ ap (λ r. flatMap f s ++ r) (append-nil (f a))
-
--- what follows a part that begins at a place of the text
-behind : (text : List ℕ) (at : ℕ) (part rest : List ℕ) → drop at text ≡ part ++ rest → drop (at + length part) text ≡ rest
-behind text at part rest q = sym (drop-drop (length part) at text) ∙ ap (drop (length part)) q ∙ drop-append-seam part rest
-
--- ---- the names of the earlier rules
-
-module _ (text names steps : List ℕ) (name : List ℕ) where
-  not-taken : (i : ℕ) → ((j : ℕ) → j < i → nameOf text names steps j ≢ name) → isTaken text names steps i name ≡ false
-  unfolding isTaken
-  not-taken zero f = refl
-  not-taken (suc i) f = ap₂ _||_ (not-taken i (λ j h. f j (omega arith))) (same-false (nameOf text names steps i) name (f i (omega arith)))
-
-  taken-back : (i : ℕ) → isTaken text names steps i name ≡ false → (j : ℕ) → j < i → nameOf text names steps j ≢ name
-  unfolding isTaken
-  taken-back zero e j h = absurd (omega arith)
-  taken-back (suc i) e j h =
-      let p = or-eq-false-eq-eq-false-and-eq-false (isTaken text names steps i name) (same (nameOf text names steps i) name) .0 e in
-      go (taken-back i (p .0)) (p .1) (decLt j i)
-    where
-      go : ((j : ℕ) → j < i → nameOf text names steps j ≢ name) → same (nameOf text names steps i) name ≡ false → Dec (j < i) → nameOf text names steps j ≢ name
-      go f p (yes k) = f j k
-      go f p (no k) =
-          let z : j ≡ i = omega arith in
-          λ q. false≢true (sym p ∙ same-true (nameOf text names steps i) name (ap (nameOf text names steps) (sym z) ∙ q))
-
--- ---- the rule lines
-
--- The rules rs are legal in a model with n bits, and no two have the same name.
-record LegalRules (n : ℕ) (rs : List Rule) : Type 0 where
-  each : (j : ℕ) → j < length rs → LegalRule n (ruleAt rs j)
-  apart : (j : ℕ) → j < length rs → (i : ℕ) → i < j → ruleAt rs i .name ≢ ruleAt rs j .name
-
-legal-more : (n : ℕ) (rs : List Rule) (rule : Rule) → LegalRules n rs → LegalRule n rule → ((j : ℕ) → j < length rs → ruleAt rs j .name ≢ rule .name)
-    → LegalRules n (rs ++ rule ∷ [])
-legal-more n rs rule l r f = record {
-  each = at-more (λ _ x. LegalRule n x) _ rs rule (l .each) r;
-  apart = at-more (λ j x. (i : ℕ) → i < j → ruleAt (rs ++ rule ∷ []) i .name ≢ x .name) _ rs rule
-      (λ j h i k. rw (List·getD-append rs (rule ∷ []) _ i (omega arith)) (l .apart j h i k))
-      (λ i k. rw (List·getD-append rs (rule ∷ []) _ i k) (f i k));
-}
-
--- The name and the expression of rule j stand at the places that are given for them.
-record Located (text names steps : List ℕ) (j : ℕ) (rule : Rule) : Type 0 where
-  name-is : nameOf text names steps j ≡ rule .name
-  rest : List ℕ
-  step-is : drop (getD steps j 0) text ≡ written (rule .step) ++ rest
-
-rule-append : (r : Rule) (rest : List ℕ) → writtenRule r ++ rest ≡ ruleKey ++ (r .name ++ 58 ∷ (written (r .step) ++ 10 ∷ rest))
-unfolding writtenRule
-rule-append r rest = line-append ruleKey (r .name ++ 58 ∷ written (r .step)) rest ∙ ap (λ x. ruleKey ++ x) (append-assoc (r .name) (58 ∷ written (r .step)) (10 ∷ rest))
-
-module _ (text names steps : List ℕ) (i name step : ℕ) where
-  -- a rule that is told keeps its place when another is added
-  located-other : (j : ℕ) (rule : Rule) → j ≢ i → Located text names steps j rule → Located text (set names i name) (set steps i step) j rule
-  unfolding nameOf
-  located-other j rule h l = record {
-    name-is = rw (getD-set-other names i j name 0 h, getD-set-other steps i j step 0 h) (l .name-is);
-    rest = l .rest;
-    step-is = rw (getD-set-other steps i j step 0 h) (l .step-is);
-  }
-
-  -- the rule that is added has its name behind `rule=` and its expression behind `:`
-  located-new : (at : ℕ) (rule : Rule) (rest : List ℕ) → i < length names → i < length steps → name ≡ at + 5 → step ≡ at + (6 + length (rule .name))
-      → drop at text ≡ writtenRule rule ++ rest → Located text (set names i name) (set steps i step) i rule
-  unfolding nameOf
-  located-new at rule rest k l p q w =
-      let value : List ℕ = written (rule .step) ++ 10 ∷ rest in
-      let named : drop name text ≡ rule .name ++ 58 ∷ value = ap (λ x. drop x text) p ∙ behind text at ruleKey (rule .name ++ 58 ∷ value) (w ∙ rule-append rule rest) in
-      let size : step - 1 - name ≡ length (rule .name) = omega arith in
-      let place : step ≡ name + length (rule .name ++ 58 ∷ []) = omega (arith, length-append (rule .name) (58 ∷ [])) in
-      record {
-        name-is = rw (getD-set-same names i name 0 k, getD-set-same steps i step 0 l, size, named) (take-append-seam (rule .name) (58 ∷ value));
-        rest = 10 ∷ rest;
-        step-is =
-            rw (getD-set-same steps i step 0 l, place)
-            (behind text name (rule .name ++ 58 ∷ []) value (named ∙ sym (append-assoc (rule .name) (58 ∷ []) value)));
-      }
-
--- Reading the rules rs, whose lines begin at a place of the text, gives r.
-record Upto (text : List ℕ) (at : ℕ) (rs : List Rule) (r : Rules) : Type 0 where
-  number : r .number ≡ 0
-  place : r .at ≡ at + length (flatMap writtenRule rs)
-  lines : drop at text ≡ flatMap writtenRule rs ++ drop (r .at) text
-  names-length : length (r .names) ≡ 16
-  steps-length : length (r .steps) ≡ 16
-  located : (j : ℕ) → j < length rs → Located text (r .names) (r .steps) j (ruleAt rs j)
-
-upto-none : (text : List ℕ) (at : ℕ) → Upto text at [] (noRules at)
-unfolding noRules flatMap
-upto-none text at = record {
-  number = refl;
-  place = omega arith;
-  lines = refl;
-  names-length = length-replicate {A = ℕ} 16 0;
-  steps-length = length-replicate {A = ℕ} 16 0;
-  located = λ j h. absurd (omega arith);
-}
-
-upto-more : (text : List ℕ) (at : ℕ) (rs : List Rule) (r : Rules) (rule : Rule) (rest : List ℕ) → Upto text at rs r → length rs < 16
-    → drop (r .at) text ≡ writtenRule rule ++ rest
-    → Upto text at (rs ++ rule ∷ []) (ruled (length rs) r (Read (6 + length (rule .name)) (length (writtenRule rule))))
-unfolding ruled
-upto-more text at rs r rule rest u h q =
-    let w : List ℕ = writtenRule rule in
-    let before : List ℕ = flatMap writtenRule rs in
-    let i : ℕ = length rs in
-    let name : ℕ = r .at + 5 in
-    let step : ℕ = r .at + (6 + length (rule .name)) in
-    let joined : flatMap writtenRule (rs ++ rule ∷ []) ≡ before ++ w = flatMap-more writtenRule rs rule in
-    record {
-      number = refl;
-      place = omega (arith, u .place, ap length joined, length-append before w);
-      lines =
-          u .lines
-          ∙ ap (λ x. before ++ x) (q ∙ ap (λ x. w ++ x) (sym (behind text (r .at) w rest q)))
-          ∙ sym (append-assoc before w (drop (r .at + length w) text))
-          ∙ ap (λ x. x ++ drop (r .at + length w) text) (sym joined);
-      names-length = length-set (r .names) i name ∙ u .names-length;
-      steps-length = length-set (r .steps) i step ∙ u .steps-length;
-      located = at-more (Located text (set (r .names) i name) (set (r .steps) i step)) _ rs rule
-          (λ j k. located-other text (r .names) (r .steps) i name step j (ruleAt rs j) (omega arith) (u .located j k))
-          (located-new text (r .names) (r .steps) i name step (r .at) rule rest (omega (arith, u .names-length)) (omega (arith, u .steps-length)) refl refl q);
-    }
-
--- one more rule line is read
-upto-next : (text : List ℕ) (n at : ℕ) (rs : List Rule) (r : Rules) (rule : Rule) (rest : List ℕ) → n ≤ 7 → Upto text at rs r → length rs < 16
-    → LegalRule n rule → ((j : ℕ) → j < length rs → ruleAt rs j .name ≢ rule .name) → drop (r .at) text ≡ writtenRule rule ++ rest
-    → Upto text at (rs ++ rule ∷ []) (nextRule text n (length rs) r)
-unfolding nextRule
-upto-next text n at rs r rule rest b u h l f q =
-    let taken : List ℕ → Bool = isTaken text (r .names) (r .steps) (length rs) in
-    let free : taken (rule .name) ≡ false = not-taken text (r .names) (r .steps) (rule .name) (length rs) (λ j k e. f j k (sym (u .located j k .name-is) ∙ e)) in
-    let read : ruleLine n taken (drop (r .at) text) ≡ Read (6 + length (rule .name)) (length (writtenRule rule))
-        = ap (ruleLine n taken) q ∙ rule-reads n b taken .there rule (l, free) rest in
-    rw (eq-eqb (r .number) 0 (u .number), read) (upto-more text at rs r rule rest u h q)
-
--- What the reading of the first i rule lines has found.
-record Ruled (text : List ℕ) (n at i : ℕ) (r : Rules) : Type 0 where
-  rules : List Rule
-  count : length rules ≡ i
-  legal : LegalRules n rules
-  upto : Upto text at rules r
-
--- a line without a number is read
-unruled : (i : ℕ) (r : Rules) {s : List ℕ} {most : ℕ} {l : Line} → Heard s most l → ruled i r l .number ≡ 0 → (v : ℕ) × (bytes : ℕ) × (l ≡ Read v bytes)
-unfolding ruled
-unruled i r (fault number a b) q = absurd (omega arith)
-unruled i r (said {v} {bytes} h) q = (v, bytes, refl)
-
--- a rule line without a number follows others without
-unnumbered : (text : List ℕ) (n i : ℕ) (r : Rules) → nextRule text n i r .number ≡ 0
-    → (r .number ≡ 0) × (ruled i r (ruleLine n (isTaken text (r .names) (r .steps) i) (drop (r .at) text)) .number ≡ 0)
-unfolding nextRule
-unnumbered text n i r =
-    by-test {A = Rules} (λ x. x .number ≡ 0 → (r .number ≡ 0) × (ruled i r (ruleLine n (isTaken text (r .names) (r .steps) i) (drop (r .at) text)) .number ≡ 0)) (eqb (r .number) 0)
-    (λ e q. (eqb-true (r .number) 0 e, q))
-    (λ e q. absurd (eqb-false (r .number) 0 e q))
-
-rules-back : (text : List ℕ) (n at : ℕ) → n ≤ 7 → (i : ℕ) → i ≤ 16 → rulesRead text n at i .number ≡ 0 → Ruled text n at i (rulesRead text n at i)
-unfolding rulesRead
-rules-back text n at b zero h q = record {
-  rules = [];
-  count = refl;
-  legal = record { each = λ j k. absurd (omega arith); apart = λ j k. absurd (omega arith) };
-  upto = upto-none text at;
-}
-rules-back text n at b (suc i) h q =
-    let r = rulesRead text n at i in
-    let w = unnumbered text n i r q in
-    let before = rules-back text n at b i (omega arith) (w .0) in
-    let rs = before .rules in
-    let taken : List ℕ → Bool = isTaken text (r .names) (r .steps) i in
-    let s = drop (r .at) text in
-    let v = unruled i r (rule-heard n taken s) (w .1) in
-    let a = rule-reads n b taken .back s (v .0) (v .1) (v .2) in
-    let rule = a .0 in
-    let free : (j : ℕ) → j < length rs → ruleAt rs j .name ≢ rule .name
-        = λ j k e. taken-back text (r .names) (r .steps) (rule .name) i (a .1 .1) j (omega (arith, before .count)) (before .upto .located j k .name-is ∙ e) in
-    record {
-      rules = rs ++ rule ∷ [];
-      count = omega (arith, before .count, length-append rs (rule ∷ []));
-      legal = legal-more n rs rule (before .legal) (a .1 .0) free;
-      upto = subst (λ m. Upto text at (rs ++ rule ∷ []) (nextRule text n m r)) (before .count)
-          (upto-next text n at rs r rule (a .2 .0) b (before .upto) (omega (arith, before .count)) (a .1 .0) free (a .2 .1));
-    }
-
-rules-there : (text : List ℕ) (n at : ℕ) (rules : List Rule) → n ≤ 7 → length rules ≤ 16 → LegalRules n rules → drop at text ≡ flatMap writtenRule rules
-    → (i : ℕ) → i ≤ length rules → Upto text at (take i rules) (rulesRead text n at i)
-unfolding rulesRead flatMap
-rules-there text n at rules b c l q zero h = upto-none text at
-rules-there text n at rules b c l q (suc i) h =
-    let r = rulesRead text n at i in
-    let before = rules-there text n at rules b c l q i (omega arith) in
-    let front = take i rules in
-    let rule = ruleAt rules i in
-    let rest = flatMap writtenRule (drop (suc i) rules) in
-    let count : length front ≡ i = length-take-le i rules (omega arith) in
-    let parts : flatMap writtenRule rules ≡ flatMap writtenRule front ++ (writtenRule rule ++ rest)
-        = ap (flatMap writtenRule) (sym (take-append-drop i rules))
-        ∙ flatMap-append writtenRule front (drop i rules)
-        ∙ ap (λ x. flatMap writtenRule front ++ flatMap writtenRule x) (drop-cons rules i _ h) in
-    subst₂ (λ x m. Upto text at x (nextRule text n m r)) (sym (take-suc rules i _ h)) count
-    (upto-next text n at front r rule rest b before (omega arith) (l .each i h)
-    (λ j k. rw (getD-take i rules j _ (omega arith)) (l .apart i h j (omega arith)))
-    (ap (λ m. drop m text) (before .place) ∙ behind text at (flatMap writtenRule front) (writtenRule rule ++ rest) (q ∙ parts)))
+use Rattle.models.specs.Lines.{varsKey, rulesKey, initKey, propKey, ruleKey, varsLine, rulesLine, stateLine, nameOf}
+use Rattle.models.specs.Reading.{rulesRead, onLine, finished, readModel}
+use Rattle.models.specs.Written.{Rule, Described, ruleAt, Within, Small, LegalExpr, LegalRule, Legal, line, decimal, writtenRule, writtenModel}
+use Rattle.models.specs.LinesLaws.{Reads, vars-reads, rules-reads, init-reads, prop-reads, line-append, length-line, decimal-one}
+use Rattle.models.specs.ExpressionsLaws.{letters-more}
+use Rattle.models.specs.RulesLaws.{behind, Upto, rules-back, rules-there}
 
 -- ---- the lines before the rules
 
@@ -366,10 +135,10 @@ written-is-found M legal =
     let t₅ : drop at₅ text ≡ last = behind text at₄ l₄ last t₄ in
     let r : Rules = rulesRead text n at₅ (length rules) in
     let u : Upto text at₅ rules r
-        = subst (λ x. Upto text at₅ x r) (take-all (length rules) rules (omega arith))
-        (rules-there text n at₅ rules h (legal .count .atMost) (record { each = legal .rules; apart = λ j k i m. legal .names i j m k }) t₅ (length rules) (omega arith)) in
+    = subst (λ x. Upto text at₅ x r) (take-all (length rules) rules (omega arith))
+    (rules-there text n at₅ rules h (legal .count .atMost) (record { each = legal .rules; apart = λ j k i m. legal .names i j m k }) t₅ (length rules) (omega arith)) in
     let size : length text ≤ r .at
-        = omega (arith, ap length t₁, length-append l₁ (l₂ ++ (l₃ ++ (l₄ ++ last))), length-append l₂ (l₃ ++ (l₄ ++ last)), length-append l₃ (l₄ ++ last), length-append l₄ last, u .place) in
+    = omega (arith, ap length t₁, length-append l₁ (l₂ ++ (l₃ ++ (l₄ ++ last))), length-append l₂ (l₃ ++ (l₄ ++ last)), length-append l₃ (l₄ ++ last), length-append l₄ last, u .place) in
     subst (Finds text M)
     (sym
     (read-is text
@@ -426,11 +195,114 @@ accepted-is-written text q =
         names = λ i j k m. g .legal .apart j m i k;
       },
       a .text-is
-      ∙ ap (λ x. l₁ ++ x) (t₁ ∙ ap (λ x. l₂ ++ x) (t₂ ∙ ap (λ x. l₃ ++ x) (t₃ ∙ ap (λ x. l₄ ++ x) t₄)))
-      ∙ ap (λ m. l₁ ++ (line rulesKey (decimal m) ++ (l₃ ++ (l₄ ++ last)))) (sym (g .count))
-      ∙ sym (written-lines M),
+          ∙ ap (λ x. l₁ ++ x) (t₁ ∙ ap (λ x. l₂ ++ x) (t₂ ∙ ap (λ x. l₃ ++ x) (t₃ ∙ ap (λ x. l₄ ++ x) t₄)))
+          ∙ ap (λ m. l₁ ++ (line rulesKey (decimal m) ++ (l₃ ++ (l₄ ++ last)))) (sym (g .count))
+          ∙ sym (written-lines M),
     )
 
 -- a text is accepted exactly when it is the written form of a legal model
 pub accepts-what-is-written : (text : List ℕ) → (readModel text .outcome ≡ Accepted) ↔ ((M : Described) × Legal M × (text ≡ writtenModel M))
 accepts-what-is-written text = (accepted-is-written text, λ m. ap (λ t. readModel t .outcome) (m .2) ∙ written-is-found (m .0) (m .1) .accepted)
+
+-- ---- what follows for an accepted text
+
+-- An expression that is legal in a model with n bits stands at a place of the text.
+pub record Stands (text : List ℕ) (n : ℕ) (capitals : Bool) (at : ℕ) : Type 0 where
+  pub tree : Expr
+  pub read : readExpr (drop at text) ≡ some tree
+  pub legal : LegalExpr n capitals tree
+
+-- Each part of the model m stands at its place in the text.
+pub record Parts (text : List ℕ) (m : Model) : Type 0 where
+  pub vars : Within 1 7 (m .vars)
+  pub rules : Within 1 16 (m .rules)
+  pub init : Stands text (m .vars) false (m .init)
+  pub prop : Stands text (m .vars) false (m .prop)
+  pub steps : (i : ℕ) → i < m .rules → Stands text (m .vars) true (getD (m .steps) i 0)
+
+-- the model of an accepted text
+pub accepted-is-found : (text : List ℕ) → readModel text .outcome ≡ Accepted → (M : Described) × Legal M × Finds text M (readModel text)
+accepted-is-found text q =
+    let w = accepted-is-written text q in
+    (w .0, w .1, subst (λ t. Finds t (w .0) (readModel t)) (sym (w .2)) (written-is-found (w .0) (w .1)))
+
+-- in an accepted text, an expression stands wherever the reading says so
+pub accepted-has-parts : (text : List ℕ) → readModel text .outcome ≡ Accepted → Parts text (readModel text .model)
+accepted-has-parts text q =
+    let w = accepted-is-found text q in
+    let M = w .0 in
+    let legal = w .1 in
+    let f = w .2 in
+    let stands : (capitals : Bool) (e : Expr) (at : ℕ) → readExpr (drop at text) ≡ some e → LegalExpr (M .vars) capitals e → Stands text (readModel text .model .vars) capitals at
+    = λ capitals e at p l. record { tree = e; read = p; legal = rw (f .vars) l } in
+    record {
+      vars = rw (f .vars) (legal .vars);
+      rules = rw (f .rules) (legal .count);
+      init = stands false (M .init) _ (f .init) (legal .init);
+      prop = stands false (M .prop) _ (f .prop) (legal .prop);
+      steps = λ i h.
+          let k : i < length (M .rules) = rw (f .rules) at h in
+          stands true (ruleAt (M .rules) i .step) _ (f .steps i k) (legal .rules i k .step);
+    }
+
+-- a text is the written form of at most one legal model
+pub one-model : (M N : Described) → Legal M → Legal N → writtenModel M ≡ writtenModel N → M ≡ N
+one-model M N l k q =
+    let f : Finds (writtenModel M) M (readModel (writtenModel M)) = written-is-found M l in
+    let g : Finds (writtenModel M) N (readModel (writtenModel M)) = subst (λ t. Finds t N (readModel t)) (sym q) (written-is-found N k) in
+    let count : length (M .rules) ≡ length (N .rules) = sym (f .rules) ∙ g .rules in
+    same-parts (sym (f .vars) ∙ g .vars)
+    (Option·some-injective (M .init) (N .init) (sym (f .init) ∙ g .init))
+    (Option·some-injective (M .prop) (N .prop) (sym (f .prop) ∙ g .prop))
+    (ext-getD _ (M .rules) (N .rules) count (λ i h.
+    let m : i < length (N .rules) = rw (← count) h in
+    same-rule (sym (f .names i h) ∙ g .names i m) (Option·some-injective _ _ (sym (f .steps i h) ∙ g .steps i m))))
+  where
+    same-rule : {r s : Rule} → r .name ≡ s .name → r .step ≡ s .step → r ≡ s
+    same-rule p q i = record { name = p i; step = q i }
+
+    same-parts : M .vars ≡ N .vars → M .init ≡ N .init → M .prop ≡ N .prop → M .rules ≡ N .rules → M ≡ N
+    same-parts a b c d i = record { vars = a i; init = b i; prop = c i; rules = d i }
+
+-- an expression without capital letters says nothing of the state one second later
+pub small-value : (e : Expr) → Small e → (now s t : ℕ) → value e now s ≡ value e now t
+unfolding value
+small-value (constant v) h now s t = refl
+small-value (bitNow i) h now s t = refl
+small-value (bitNext i) h now s t = absurd h
+small-value (negation e) h now s t = ap not (small-value e h now s t)
+small-value (conjunction d e) h now s t = ap₂ _&&_ (small-value d (h .0) now s t) (small-value e (h .1) now s t)
+small-value (disjunction d e) h now s t = ap₂ _||_ (small-value d (h .0) now s t) (small-value e (h .1) now s t)
+small-value (implication d e) h now s t = ap₂ (λ x y. not x || y) (small-value d (h .0) now s t) (small-value e (h .1) now s t)
+small-value (equivalence d e) h now s t = ap₂ Bool·beq (small-value d (h .0) now s t) (small-value e (h .1) now s t)
+
+-- ---- no legal model has more than 1,420 bytes
+
+rule-length : (n : ℕ) (r : Rule) → LegalRule n r → length (writtenRule r) ≤ 79
+unfolding writtenRule size
+rule-length n r l = omega (arith, l .nameLength .atMost, l .step .bytes, length-line ruleKey (r .name ++ 58 ∷ written (r .step)), length-append (r .name) (58 ∷ written (r .step)))
+
+rules-length : (n : ℕ) (rs : List Rule) → ((i : ℕ) → i < length rs → LegalRule n (ruleAt rs i)) → length (flatMap writtenRule rs) ≤ 79 * length rs
+unfolding flatMap
+rules-length n [] f = omega arith
+rules-length n (r ∷ rs) f =
+    omega (arith, rule-length n r (f 0 (omega arith)), rules-length n rs (λ i h. f (suc i) (omega arith)), length-append (writtenRule r) (flatMap writtenRule rs))
+
+decimal-length : (n : ℕ) → length (decimal n) ≤ 2
+unfolding decimal
+decimal-length n = go (ltb n 10)
+  where
+    go : (t : Bool) → length (cond t ((48 + n) ∷ []) ((48 + n / 10) ∷ (48 + n % 10) ∷ [])) ≤ 2
+    go true = omega arith
+    go false = omega arith
+
+pub legal-length : (M : Described) → Legal M → length (writtenModel M) ≤ 1420
+unfolding size
+legal-length M l =
+    let l₁ : List ℕ = line varsKey (decimal (M .vars)) in
+    let l₂ : List ℕ = line rulesKey (decimal (length (M .rules))) in
+    let l₃ : List ℕ = line initKey (written (M .init)) in
+    let l₄ : List ℕ = line propKey (written (M .prop)) in
+    let last : List ℕ = flatMap writtenRule (M .rules) in
+    let digit : length (decimal (M .vars)) ≡ 1 = ap length (decimal-one (M .vars) (omega (arith, l .vars .atMost))) in
+    omega (arith, l .count .atMost, l .init .bytes, l .prop .bytes, decimal-length (length (M .rules)), rules-length (M .vars) (M .rules) (l .rules), ap length (written-lines M), length-append l₁ (l₂ ++ (l₃ ++ (l₄ ++ last))), length-append l₂ (l₃ ++ (l₄ ++ last)), length-append l₃ (l₄ ++ last), length-append l₄ last, length-line varsKey (decimal (M .vars)), length-line rulesKey (decimal (length (M .rules))), length-line initKey (written (M .init)), length-line propKey (written (M .prop)))
