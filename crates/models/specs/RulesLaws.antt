@@ -10,8 +10,8 @@ use native.Mathlib.Omega.{arith}
 use native.Mathlib.Decide.{decLt}
 use borrow.Author.Tests.{eq-eqb, eqb-true, eqb-false}
 use lib.Dec.{eqb}
-use lib.ListN.{length, getD, take, drop, set, length-append, take-append-drop, length-set, length-replicate, List·getD-append}
-use lib.Seq.{take-suc, drop-cons, take-append-seam, drop-append-seam, drop-drop, getD-append-seam, getD-set-same, getD-set-other, getD-take, length-take-le}
+use lib.ListN.{length, getD, take, drop, set, length-append, length-set, length-replicate, List·getD-append}
+use lib.Seq.{take-suc, take-length, split-at, take-append-seam, drop-append-seam, drop-drop, getD-append-seam, getD-set-same, getD-set-other, getD-take, length-take-le}
 use Rattle.sets.specs.Choice.{by-test}
 use Rattle.exprs.specs.Expr.{written}
 use Rattle.models.specs.declared.lines.Line.{Line}
@@ -47,6 +47,11 @@ flatMap-more : {A : Type 0} (f : A → List ℕ) (s : List A) (a : A) → flatMa
 unfolding flatMap
 flatMap-more f s a = flatMap-append f s (a ∷ []) ∙ ap (λ r. flatMap f s ++ r) (append-nil (f a))
 
+-- cut around the element at i
+flatMap-at : {A : Type 0} (f : A → List ℕ) (l : List A) (i : ℕ) (d : A) → i < length l → flatMap f l ≡ flatMap f (take i l) ++ (f (getD l i d) ++ flatMap f (drop (suc i) l))
+unfolding flatMap
+flatMap-at f l i d h = ap (flatMap f) (split-at l i d h) ∙ flatMap-append f (take i l) (getD l i d ∷ drop (suc i) l)
+
 -- what follows a part that begins at a place of the text
 pub behind : (text : List ℕ) (at : ℕ) (part rest : List ℕ) → drop at text ≡ part ++ rest → drop (at + length part) text ≡ rest
 behind text at part rest q = sym (drop-drop (length part) at text) ∙ ap (drop (length part)) q ∙ drop-append-seam part rest
@@ -79,7 +84,11 @@ pub record LegalRules (n : ℕ) (rs : List Rule) : Type 0 where
   pub each : (j : ℕ) → j < length rs → LegalRule n (ruleAt rs j)
   pub apart : (j : ℕ) → j < length rs → (i : ℕ) → i < j → ruleAt rs i .name ≢ ruleAt rs j .name
 
-legal-more : (n : ℕ) (rs : List Rule) (rule : Rule) → LegalRules n rs → LegalRule n rule → ((j : ℕ) → j < length rs → ruleAt rs j .name ≢ rule .name)
+-- no rule of rs has the name of this one
+abbrev New : List Rule → Rule → Type 0
+New rs rule = (j : ℕ) → j < length rs → ruleAt rs j .name ≢ rule .name
+
+legal-more : (n : ℕ) (rs : List Rule) (rule : Rule) → LegalRules n rs → LegalRule n rule → New rs rule
     → LegalRules n (rs ++ rule ∷ [])
 legal-more n rs rule l r f = record {
   each = at-more (λ _ x. LegalRule n x) _ rs rule (l .each) r;
@@ -173,15 +182,13 @@ upto-more text at rs r rule rest u h q =
 
 -- one more rule line is read
 upto-next : (text : List ℕ) (n at : ℕ) (rs : List Rule) (r : Rules) (rule : Rule) (rest : List ℕ) → n ≤ 7 → Upto text at rs r → length rs < 16
-    → LegalRule n rule → ((j : ℕ) → j < length rs → ruleAt rs j .name ≢ rule .name) → drop (r .at) text ≡ writtenRule rule ++ rest
+    → LegalRule n rule → New rs rule → drop (r .at) text ≡ writtenRule rule ++ rest
     → Upto text at (rs ++ rule ∷ []) (nextRule text n (length rs) r)
 unfolding nextRule
 upto-next text n at rs r rule rest b u h l f q =
     let taken : List ℕ → Bool = isTaken text (r .names) (r .steps) (length rs) in
     let free : taken (rule .name) ≡ false = not-taken text (r .names) (r .steps) (rule .name) (length rs) (λ j k e. f j k (sym (u .located j k .name-is) ∙ e)) in
-    let read : ruleLine n taken (drop (r .at) text) ≡ Read (6 + length (rule .name)) (length (writtenRule rule))
-    = ap (ruleLine n taken) q ∙ rule-reads n b taken .there rule (l, free) rest in
-    rw (eq-eqb (r .number) 0 (u .number), read) (upto-more text at rs r rule rest u h q)
+    rw (eq-eqb (r .number) 0 (u .number), ap (ruleLine n taken) q ∙ rule-reads n b taken .there rule (l, free) rest) (upto-more text at rs r rule rest u h q)
 
 -- What the reading of the first i rule lines has found.
 pub record Ruled (text : List ℕ) (n at i : ℕ) (r : Rules) : Type 0 where
@@ -205,6 +212,7 @@ unnumbered text n i r =
     (λ e q. (eqb-true (r .number) 0 e, q))
     (λ e q. absurd (eqb-false (r .number) 0 e q))
 
+-- rule lines that no number refuses are written forms of legal rules
 pub rules-back : (text : List ℕ) (n at : ℕ) → n ≤ 7 → (i : ℕ) → i ≤ 16 → rulesRead text n at i .number ≡ 0 → Ruled text n at i (rulesRead text n at i)
 unfolding rulesRead
 rules-back text n at b zero h q = record {
@@ -223,32 +231,35 @@ rules-back text n at b (suc i) h q =
     let v = unruled i r (rule-heard n taken s) (w .1) in
     let a = rule-reads n b taken .back s (v .0) (v .1) (v .2) in
     let rule = a .0 in
-    let free : (j : ℕ) → j < length rs → ruleAt rs j .name ≢ rule .name
-    = λ j k e. taken-back text (r .names) (r .steps) (rule .name) i (a .1 .1) j (omega (arith, before .count)) (before .upto .located j k .name-is ∙ e) in
+    let others = taken-back text (r .names) (r .steps) (rule .name) i (a .1 .1) in
+    let new : New rs rule = λ j k e. others j (omega (arith, before .count)) (before .upto .located j k .name-is ∙ e) in
     record {
       rules = rs ++ rule ∷ [];
       count = omega (arith, before .count, length-append rs (rule ∷ []));
-      legal = legal-more n rs rule (before .legal) (a .1 .0) free;
+      legal = legal-more n rs rule (before .legal) (a .1 .0) new;
       upto = subst (λ m. Upto text at (rs ++ rule ∷ []) (nextRule text n m r)) (before .count)
-          (upto-next text n at rs r rule (a .2 .0) b (before .upto) (omega (arith, before .count)) (a .1 .0) free (a .2 .1));
+          (upto-next text n at rs r rule (a .2 .0) b (before .upto) (omega (arith, before .count)) (a .1 .0) new (a .2 .1));
     }
 
-pub rules-there : (text : List ℕ) (n at : ℕ) (rules : List Rule) → n ≤ 7 → length rules ≤ 16 → LegalRules n rules → drop at text ≡ flatMap writtenRule rules
+-- the first i of the rules that stand in the text, one after the other, are found
+some-there : (text : List ℕ) (n at : ℕ) (rules : List Rule) → n ≤ 7 → length rules ≤ 16 → LegalRules n rules → drop at text ≡ flatMap writtenRule rules
     → (i : ℕ) → i ≤ length rules → Upto text at (take i rules) (rulesRead text n at i)
-unfolding rulesRead flatMap
-rules-there text n at rules b c l q zero h = upto-none text at
-rules-there text n at rules b c l q (suc i) h =
+unfolding rulesRead
+some-there text n at rules b c l q zero h = upto-none text at
+some-there text n at rules b c l q (suc i) h =
     let r = rulesRead text n at i in
-    let before = rules-there text n at rules b c l q i (omega arith) in
+    let before = some-there text n at rules b c l q i (omega arith) in
     let front = take i rules in
     let rule = ruleAt rules i in
     let rest = flatMap writtenRule (drop (suc i) rules) in
     let count : length front ≡ i = length-take-le i rules (omega arith) in
-    let parts : flatMap writtenRule rules ≡ flatMap writtenRule front ++ (writtenRule rule ++ rest)
-    = ap (flatMap writtenRule) (sym (take-append-drop i rules))
-    ∙ flatMap-append writtenRule front (drop i rules)
-    ∙ ap (λ x. flatMap writtenRule front ++ flatMap writtenRule x) (drop-cons rules i _ h) in
     subst₂ (λ x m. Upto text at x (nextRule text n m r)) (sym (take-suc rules i _ h)) count
     (upto-next text n at front r rule rest b before (omega arith) (l .each i h)
     (λ j k. rw (getD-take i rules j _ (omega arith)) (l .apart i h j (omega arith)))
-    (ap (λ m. drop m text) (before .place) ∙ behind text at (flatMap writtenRule front) (writtenRule rule ++ rest) (q ∙ parts)))
+    (ap (λ m. drop m text) (before .place) ∙ behind text at (flatMap writtenRule front) (writtenRule rule ++ rest) (q ∙ flatMap-at writtenRule rules i _ h)))
+
+-- the rules that stand in the text, one after the other, are found
+pub rules-there : (text : List ℕ) (n at : ℕ) (rules : List Rule) → n ≤ 7 → length rules ≤ 16 → LegalRules n rules → drop at text ≡ flatMap writtenRule rules
+    → Upto text at rules (rulesRead text n at (length rules))
+rules-there text n at rules b c l q =
+    subst (λ x. Upto text at x (rulesRead text n at (length rules))) (take-length rules) (some-there text n at rules b c l q (length rules) (omega arith))

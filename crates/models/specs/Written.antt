@@ -1,4 +1,4 @@
--- A model as document 01, "The model text", describes it: what it consists of, when it is legal, and its written form.
+-- A model as document 01, "The model text", describes it: what it consists of, when it is legal, its written form, and where its parts are found.
 -- `Rattle.models.specs.WrittenLaws` shows that the reading accepts exactly the written forms of legal models, and finds their parts.
 -- Assumes nothing: these are definitions.
 use Prim.Native.Nat.{ℕ, _+_, _/_, _%_, _≤_, _<_}
@@ -6,11 +6,16 @@ use mathlib.Core.Path.{_≡_}
 use mathlib.Core.Logic.{_≢_}
 use mathlib.Core.Bool.{Bool, true, false, cond}
 use mathlib.Core.List.{List, [], _∷_, _++_, flatMap}
+use mathlib.Core.Option.{some}
 use lib.Dec.{ltb}
-use lib.ListN.{length, getD}
+use lib.ListN.{length, getD, drop}
 use Rattle.exprs.specs.Expr.{Expr, constant, bitNow, bitNext, negation, conjunction, disjunction, implication, equivalence, written, size, Letters}
+use Rattle.exprs.specs.Reading.{readExpr}
 use Rattle.models.specs.declared.classes.Class.the-variants.{InName}
-use Rattle.models.specs.Lines.{varsKey, rulesKey, initKey, propKey, ruleKey, all}
+use Rattle.models.specs.declared.model.Model.{Model}
+use Rattle.models.specs.declared.model.Outcome.the-variants.{Accepted}
+use Rattle.models.specs.declared.model.Reading.{Reading}
+use Rattle.models.specs.Lines.{varsKey, rulesKey, initKey, propKey, ruleKey, all, nameOf}
 
 -- ---- what a model consists of
 
@@ -94,3 +99,29 @@ writtenModel M =
     ++ line initKey (written (M .init))
     ++ line propKey (written (M .prop))
     ++ flatMap writtenRule (M .rules)
+
+-- ---- what a reading finds
+
+-- the reading r of the text finds the parts of the model M: N, R, and at their places the expressions and the names
+pub record Finds (text : List ℕ) (M : Described) (r : Reading) : Type 0 where
+  pub accepted : r .outcome ≡ Accepted
+  pub vars : r .model .vars ≡ M .vars
+  pub rules : r .model .rules ≡ length (M .rules)
+  pub init : readExpr (drop (r .model .init) text) ≡ some (M .init)
+  pub prop : readExpr (drop (r .model .prop) text) ≡ some (M .prop)
+  pub steps : (i : ℕ) → i < length (M .rules) → readExpr (drop (getD (r .model .steps) i 0) text) ≡ some (ruleAt (M .rules) i .step)
+  pub names : (i : ℕ) → i < length (M .rules) → nameOf text (r .model .names) (r .model .steps) i ≡ ruleAt (M .rules) i .name
+
+-- an expression that is legal in a model with n bits stands at a place of the text
+pub record Stands (text : List ℕ) (n : ℕ) (capitals : Bool) (at : ℕ) : Type 0 where
+  pub tree : Expr
+  pub read : readExpr (drop at text) ≡ some tree
+  pub legal : LegalExpr n capitals tree
+
+-- N and R are in their ranges, and each expression stands at its place in the text
+pub record Parts (text : List ℕ) (m : Model) : Type 0 where
+  pub vars : Within 1 7 (m .vars)
+  pub rules : Within 1 16 (m .rules)
+  pub init : Stands text (m .vars) false (m .init)
+  pub prop : Stands text (m .vars) false (m .prop)
+  pub steps : (i : ℕ) → i < m .rules → Stands text (m .vars) true (getD (m .steps) i 0)

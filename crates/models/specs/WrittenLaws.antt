@@ -10,23 +10,22 @@ use native.Mathlib.Omega.{arith}
 use borrow.Author.Tests.{eq-eqb, eqb-true, le-ltb, ltb-false}
 use lib.Dec.{eqb, ltb}
 use lib.ListN.{length, getD, drop, length-append, drop-of-length-le}
-use lib.Seq.{take-all, drop-append-seam, ext-getD}
+use lib.Seq.{drop-append-seam, ext-getD}
 use Rattle.sets.specs.Choice.{by-test}
 use Rattle.exprs.specs.Expr.{Expr, constant, bitNow, bitNext, negation, conjunction, disjunction, implication, equivalence, value, written, size}
 use Rattle.exprs.specs.Reading.{readExpr}
 use Rattle.exprs.specs.ReadingLaws.{reads-what-is-written}
 use Rattle.models.specs.declared.lines.Line.{Line}
 use Rattle.models.specs.declared.lines.Line.the-variants.{Fault, Read}
-use Rattle.models.specs.declared.model.Model.{Model}
 use Rattle.models.specs.declared.model.Outcome.the-variants.{Accepted}
 use Rattle.models.specs.declared.model.Reading.{Reading}
 use Rattle.models.specs.declared.model.Rules.{Rules}
-use Rattle.models.specs.Lines.{varsKey, rulesKey, initKey, propKey, ruleKey, varsLine, rulesLine, stateLine, nameOf}
+use Rattle.models.specs.Lines.{varsKey, rulesKey, initKey, propKey, ruleKey, varsLine, rulesLine, stateLine}
 use Rattle.models.specs.Reading.{rulesRead, onLine, finished, readModel}
-use Rattle.models.specs.Written.{Rule, Described, ruleAt, Within, Small, LegalExpr, LegalRule, Legal, line, decimal, writtenRule, writtenModel}
+use Rattle.models.specs.Written.{Rule, Described, ruleAt, Within, Small, LegalExpr, LegalRule, Legal, line, decimal, writtenRule, writtenModel, Finds, Stands, Parts}
 use Rattle.models.specs.LinesLaws.{Reads, vars-reads, rules-reads, init-reads, prop-reads, line-append, length-line, decimal-one}
 use Rattle.models.specs.ExpressionsLaws.{letters-more}
-use Rattle.models.specs.RulesLaws.{behind, Upto, rules-back, rules-there}
+use Rattle.models.specs.RulesLaws.{LegalRules, behind, Upto, rules-back, rules-there}
 
 -- ---- the lines before the rules
 
@@ -89,21 +88,14 @@ finished-back text n count init prop r =
 regroup : (a b c d e : List ℕ) → a ++ b ++ c ++ d ++ e ≡ a ++ (b ++ (c ++ (d ++ e)))
 regroup a b c d e = simp append-assoc
 
+length-five : (a b c d e : List ℕ) → length (a ++ (b ++ (c ++ (d ++ e)))) ≡ length a + length b + length c + length d + length e
+length-five a b c d e = simp length-append (omega arith)
+
 written-lines : (M : Described) → writtenModel M
     ≡ line varsKey (decimal (M .vars))
     ++ (line rulesKey (decimal (length (M .rules))) ++ (line initKey (written (M .init)) ++ (line propKey (written (M .prop)) ++ flatMap writtenRule (M .rules))))
 unfolding writtenModel
 written-lines M = regroup (line varsKey (decimal (M .vars))) (line rulesKey (decimal (length (M .rules)))) (line initKey (written (M .init))) (line propKey (written (M .prop))) (flatMap writtenRule (M .rules))
-
--- The reading r of the text finds the parts of the model M.
-pub record Finds (text : List ℕ) (M : Described) (r : Reading) : Type 0 where
-  pub accepted : r .outcome ≡ Accepted
-  pub vars : r .model .vars ≡ M .vars
-  pub rules : r .model .rules ≡ length (M .rules)
-  pub init : readExpr (drop (r .model .init) text) ≡ some (M .init)
-  pub prop : readExpr (drop (r .model .prop) text) ≡ some (M .prop)
-  pub steps : (i : ℕ) → i < length (M .rules) → readExpr (drop (getD (r .model .steps) i 0) text) ≡ some (ruleAt (M .rules) i .step)
-  pub names : (i : ℕ) → i < length (M .rules) → nameOf text (r .model .names) (r .model .steps) i ≡ ruleAt (M .rules) i .name
 
 module _ (n : ℕ) (h : n ≤ 7) (capitals : Bool) (e : Expr) (l : LegalExpr n capitals e) where
   legal-read : (s rest : List ℕ) → s ≡ written e ++ rest → readExpr s ≡ some e
@@ -134,11 +126,9 @@ written-is-found M legal =
     let t₄ : drop at₄ text ≡ l₄ ++ last = behind text at₃ l₃ (l₄ ++ last) t₃ in
     let t₅ : drop at₅ text ≡ last = behind text at₄ l₄ last t₄ in
     let r : Rules = rulesRead text n at₅ (length rules) in
-    let u : Upto text at₅ rules r
-    = subst (λ x. Upto text at₅ x r) (take-all (length rules) rules (omega arith))
-    (rules-there text n at₅ rules h (legal .count .atMost) (record { each = legal .rules; apart = λ j k i m. legal .names i j m k }) t₅ (length rules) (omega arith)) in
-    let size : length text ≤ r .at
-    = omega (arith, ap length t₁, length-append l₁ (l₂ ++ (l₃ ++ (l₄ ++ last))), length-append l₂ (l₃ ++ (l₄ ++ last)), length-append l₃ (l₄ ++ last), length-append l₄ last, u .place) in
+    let each : LegalRules n rules = record { each = legal .rules; apart = λ j k i m. legal .names i j m k } in
+    let u : Upto text at₅ rules r = rules-there text n at₅ rules h (legal .count .atMost) each t₅ in
+    let size : length text ≤ r .at = omega (arith, ap length t₁, length-five l₁ l₂ l₃ l₄ last, u .place) in
     subst (Finds text M)
     (sym
     (read-is text
@@ -206,25 +196,14 @@ accepts-what-is-written text = (accepted-is-written text, λ m. ap (λ t. readMo
 
 -- ---- what follows for an accepted text
 
--- An expression that is legal in a model with n bits stands at a place of the text.
-pub record Stands (text : List ℕ) (n : ℕ) (capitals : Bool) (at : ℕ) : Type 0 where
-  pub tree : Expr
-  pub read : readExpr (drop at text) ≡ some tree
-  pub legal : LegalExpr n capitals tree
-
--- Each part of the model m stands at its place in the text.
-pub record Parts (text : List ℕ) (m : Model) : Type 0 where
-  pub vars : Within 1 7 (m .vars)
-  pub rules : Within 1 16 (m .rules)
-  pub init : Stands text (m .vars) false (m .init)
-  pub prop : Stands text (m .vars) false (m .prop)
-  pub steps : (i : ℕ) → i < m .rules → Stands text (m .vars) true (getD (m .steps) i 0)
-
 -- the model of an accepted text
 pub accepted-is-found : (text : List ℕ) → readModel text .outcome ≡ Accepted → (M : Described) × Legal M × Finds text M (readModel text)
 accepted-is-found text q =
     let w = accepted-is-written text q in
     (w .0, w .1, subst (λ t. Finds t (w .0) (readModel t)) (sym (w .2)) (written-is-found (w .0) (w .1)))
+
+stands : {text : List ℕ} {n m : ℕ} {capitals : Bool} {e : Expr} {at : ℕ} → n ≡ m → readExpr (drop at text) ≡ some e → LegalExpr n capitals e → Stands text m capitals at
+stands {e} q p l = record { tree = e; read = p; legal = rw (← q) l }
 
 -- in an accepted text, an expression stands wherever the reading says so
 pub accepted-has-parts : (text : List ℕ) → readModel text .outcome ≡ Accepted → Parts text (readModel text .model)
@@ -233,16 +212,14 @@ accepted-has-parts text q =
     let M = w .0 in
     let legal = w .1 in
     let f = w .2 in
-    let stands : (capitals : Bool) (e : Expr) (at : ℕ) → readExpr (drop at text) ≡ some e → LegalExpr (M .vars) capitals e → Stands text (readModel text .model .vars) capitals at
-    = λ capitals e at p l. record { tree = e; read = p; legal = rw (f .vars) l } in
     record {
       vars = rw (f .vars) (legal .vars);
       rules = rw (f .rules) (legal .count);
-      init = stands false (M .init) _ (f .init) (legal .init);
-      prop = stands false (M .prop) _ (f .prop) (legal .prop);
+      init = stands (sym (f .vars)) (f .init) (legal .init);
+      prop = stands (sym (f .vars)) (f .prop) (legal .prop);
       steps = λ i h.
           let k : i < length (M .rules) = rw (f .rules) at h in
-          stands true (ruleAt (M .rules) i .step) _ (f .steps i k) (legal .rules i k .step);
+          stands (sym (f .vars)) (f .steps i k) (legal .rules i k .step);
     }
 
 -- a text is the written form of at most one legal model
@@ -276,7 +253,7 @@ small-value (disjunction d e) h now s t = ap₂ _||_ (small-value d (h .0) now s
 small-value (implication d e) h now s t = ap₂ (λ x y. not x || y) (small-value d (h .0) now s t) (small-value e (h .1) now s t)
 small-value (equivalence d e) h now s t = ap₂ Bool·beq (small-value d (h .0) now s t) (small-value e (h .1) now s t)
 
--- ---- no legal model has more than 1,420 bytes
+-- ---- how long a legal model is
 
 rule-length : (n : ℕ) (r : Rule) → LegalRule n r → length (writtenRule r) ≤ 79
 unfolding writtenRule size
@@ -296,6 +273,7 @@ decimal-length n = go (ltb n 10)
     go true = omega arith
     go false = omega arith
 
+-- "no legal model has more than 1,420" bytes
 pub legal-length : (M : Described) → Legal M → length (writtenModel M) ≤ 1420
 unfolding size
 legal-length M l =
@@ -305,4 +283,4 @@ legal-length M l =
     let l₄ : List ℕ = line propKey (written (M .prop)) in
     let last : List ℕ = flatMap writtenRule (M .rules) in
     let digit : length (decimal (M .vars)) ≡ 1 = ap length (decimal-one (M .vars) (omega (arith, l .vars .atMost))) in
-    omega (arith, l .count .atMost, l .init .bytes, l .prop .bytes, decimal-length (length (M .rules)), rules-length (M .vars) (M .rules) (l .rules), ap length (written-lines M), length-append l₁ (l₂ ++ (l₃ ++ (l₄ ++ last))), length-append l₂ (l₃ ++ (l₄ ++ last)), length-append l₃ (l₄ ++ last), length-append l₄ last, length-line varsKey (decimal (M .vars)), length-line rulesKey (decimal (length (M .rules))), length-line initKey (written (M .init)), length-line propKey (written (M .prop)))
+    omega (arith, l .count .atMost, l .init .bytes, l .prop .bytes, decimal-length (length (M .rules)), rules-length (M .vars) (M .rules) (l .rules), ap length (written-lines M), length-five l₁ l₂ l₃ l₄ last, length-line varsKey (decimal (M .vars)), length-line rulesKey (decimal (length (M .rules))), length-line initKey (written (M .init)), length-line propKey (written (M .prop)))
