@@ -57,13 +57,13 @@ spelt b =
 
 -- ---- what is written is read
 
-back-now : (i : ℕ) → i < 7 → tokenOf (97 + i) ≡ Now i
+pub back-now : (i : ℕ) → i < 7 → tokenOf (97 + i) ≡ Now i
 unfolding tokenOf
 back-now i h =
     simp (ne-eqb (97 + i) 48 (omega arith), ne-eqb (97 + i) 49 (omega arith), ne-eqb (97 + i) 33 (omega arith), ne-eqb (97 + i) 38 (omega arith), ne-eqb (97 + i) 124 (omega arith), ne-eqb (97 + i) 62 (omega arith), ne-eqb (97 + i) 61 (omega arith), le-leb 97 (97 + i) (omega arith), le-leb (97 + i) 103 (omega arith))
     (ap Now (omega arith))
 
-back-next : (i : ℕ) → i < 7 → tokenOf (65 + i) ≡ Next i
+pub back-next : (i : ℕ) → i < 7 → tokenOf (65 + i) ≡ Next i
 unfolding tokenOf
 back-next i h =
     simp (ne-eqb (65 + i) 48 (omega arith), ne-eqb (65 + i) 49 (omega arith), ne-eqb (65 + i) 33 (omega arith), ne-eqb (65 + i) 38 (omega arith), ne-eqb (65 + i) 124 (omega arith), ne-eqb (65 + i) 62 (omega arith), ne-eqb (65 + i) 61 (omega arith), lt-leb 97 (65 + i) (omega arith), le-leb 65 (65 + i) (omega arith), le-leb (65 + i) 71 (omega arith))

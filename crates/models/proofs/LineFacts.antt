@@ -1,7 +1,7 @@
 -- What `end_of` answers, and from it each way out of a function that reads a line: the same for counts and for expressions.
 -- From the definitions of `Lines` alone.
 use Prim.Native.Nat.{ℕ, zero, suc, _+_, _-_, _<_}
-use mathlib.Core.Path.{_≡_, refl, sym, ap, ap₂, _∙_}
+use mathlib.Core.Path.{_≡_, refl, sym, ap, _∙_}
 use mathlib.Core.Logic.{_≢_}
 use mathlib.Core.Bool.{Bool, true, false, cond}
 use mathlib.Core.List.{List}
@@ -13,6 +13,7 @@ use Rattle.models.specs.declared.lines.End.{End}
 use Rattle.models.specs.declared.lines.End.the-variants.{At, Missing}
 use Rattle.models.specs.Lines.{lineLength, isLine, endOf, valueOf, says, counted, withFault}
 use Rattle.models.specs.Ranges.{line-within}
+use Rattle.models.specs.LinesLaws.{counted-more}
 
 -- the line that s begins with has the key and ends at `end`
 pub record Ended (key s : List ℕ) (end : ℕ) : Type 0 where
@@ -36,16 +37,7 @@ pub no-line : (key s : List ℕ) {r : End} (otherwise : Line) → r ≡ endOf ke
 unfolding endOf
 no-line key s otherwise said told = rw (by-none key s (isLine key s) refl (sym said ∙ told))
 
-counted-more : (n : ℕ) (s : List ℕ) → n ≢ 0 → counted n s ≡ says n s
-unfolding counted
-counted-more zero s h = absurd (h refl)
-counted-more (suc n) s h = refl
-
--- an expression that no number refuses, and one that a number refuses
-pub unfaulted : (number place : ℕ) (s : List ℕ) → number ≡ 0 → withFault number place s ≡ says place s
-unfolding withFault
-unfaulted number place s z = rw z
-
+-- an expression that a number refuses
 pub faulted : (number place : ℕ) (s : List ℕ) → number ≢ 0 → withFault number place s ≡ Fault number
 unfolding withFault
 faulted zero place s h = absurd (h refl)

@@ -1,17 +1,16 @@
--- Parts of lists past their end, the prefix of a class step by step, and that `same` tells equal lists. By induction on the lists.
-use Prim.Native.Nat.{ℕ, zero, suc, _+_, _-_, _<_, _≤_}
-use mathlib.Core.Path.{_≡_, refl, sym, ap, ap₂, _∙_}
-use mathlib.Core.Bool.{Bool, true, false, _&&_, cond, and-eq-true-iff, false≢true}
-use mathlib.Mathlib.Data.Bool.Basic.{eq-false-of-not-eq-true}
+-- Parts of lists past their end, and the prefix of a class step by step. By induction on the lists.
+use Prim.Native.Nat.{ℕ, suc, _+_, _-_, _<_, _≤_}
+use mathlib.Core.Path.{_≡_}
+use mathlib.Core.Bool.{Bool, true, false, _&&_, cond, and-eq-true-iff}
 use mathlib.Core.List.{List, [], _∷_}
 use native.Mathlib.Omega.{arith}
 use native.Mathlib.Numerals.{add-one}
-use borrow.Author.Tests.{eq-eqb, eqb-true, leb-true}
-use lib.Dec.{eqb, leb}
+use borrow.Author.Tests.{leb-true}
+use lib.Dec.{leb}
 use lib.ListN.{length, getD, take, drop, drop-of-length-le, length-drop}
 use lib.Seq.{take-all, drop-cons}
 use Rattle.models.specs.declared.classes.Class.{Class}
-use Rattle.models.specs.Bytes.{belongs, prefix, same}
+use Rattle.models.specs.Bytes.{belongs, prefix}
 
 -- a part that ends past the end of the list is all that is left
 pub part-past : (l : List ℕ) (from to : ℕ) → length l < to → take (to - from) (drop from l) ≡ drop from l
@@ -43,23 +42,3 @@ pub prefix-le : (c : Class) (s : List ℕ) → prefix c s ≤ length s
 unfolding prefix
 prefix-le c [] = omega arith
 prefix-le c (b ∷ s) = count-le (belongs c b) (prefix c s) (length s) (prefix-le c s)
-
--- ---- equal lists
-
-same-self : (l : List ℕ) → same l l ≡ true
-unfolding same
-same-self [] = refl
-same-self (x ∷ l) = ap₂ _&&_ (eq-eqb x x refl) (same-self l)
-
-pub same-true : (a b : List ℕ) → a ≡ b → same a b ≡ true
-same-true a b e = ap (same a) (sym e) ∙ same-self a
-
-same-is : (a b : List ℕ) → same a b ≡ true → a ≡ b
-unfolding same
-same-is [] [] e = refl
-same-is [] (y ∷ b) e = absurd (false≢true e)
-same-is (x ∷ a) [] e = absurd (false≢true e)
-same-is (x ∷ a) (y ∷ b) e = let h = and-eq-true-iff (eqb x y) (same a b) .0 e in ap₂ _∷_ (eqb-true x y (h .0)) (same-is a b (h .1))
-
-pub same-false : (a b : List ℕ) → (a ≡ b → ⊥) → same a b ≡ false
-same-false a b n = eq-false-of-not-eq-true (λ q. n (same-is a b q))

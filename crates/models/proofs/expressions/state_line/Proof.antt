@@ -10,7 +10,8 @@ use borrow.Author.Needs.{needs}
 use lib.ListN.{length, take, drop}
 use Rattle.models.specs.declared.lines.Line.the-variants.{Fault, Read}
 use Rattle.models.specs.Lines.{valueOf, faultOf, withFault, stateLine}
-use Rattle.models.proofs.LineFacts.{Ended, ended, no-line, end-within, value-is, says-is, on-line, unfaulted, faulted}
+use Rattle.models.proofs.LineFacts.{Ended, ended, no-line, end-within, value-is, says-is, on-line, faulted}
+use Rattle.models.specs.LinesLaws.{unfaulted}
 use Rattle.models.proofs.expressions.state_line.Statement.{statement}
 use Rattle.models.proofs.expressions.state_line.Tie as tie
 

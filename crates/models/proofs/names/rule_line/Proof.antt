@@ -17,7 +17,8 @@ use Rattle.models.specs.declared.lines.End.{End}
 use Rattle.models.specs.declared.lines.End.the-variants.{Missing}
 use Rattle.models.specs.Bytes.{prefix}
 use Rattle.models.specs.Lines.{ruleKey, endOf, valueOf, isNamed, faultOf, withFault, ruleLine}
-use Rattle.models.proofs.LineFacts.{Ended, ended, no-line, end-within, value-is, says-is, on-line, unfaulted, faulted}
+use Rattle.models.proofs.LineFacts.{Ended, ended, no-line, end-within, value-is, says-is, on-line, faulted}
+use Rattle.models.specs.LinesLaws.{unfaulted}
 use Rattle.models.proofs.names.rule_line.Statement.{statement}
 use Rattle.models.proofs.names.rule_line.Tie as tie
 

@@ -7,7 +7,7 @@ use native.Mathlib.Omega.{arith}
 use borrow.Author.Count.{below-more}
 use lib.ListN.{length, getD}
 use lib.Seq.{ext-getD}
-use Rattle.models.proofs.Lists.{same-true, same-false}
+use Rattle.models.specs.BytesLaws.{same-true, same-false}
 use Rattle.models.proofs.parts.same_bytes.Statement.{statement}
 use Rattle.models.proofs.parts.same_bytes.Tie as tie
 
