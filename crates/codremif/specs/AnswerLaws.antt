@@ -88,7 +88,7 @@ module _ (text : List ℕ) (model : textOutcome text ≡ Accepted) where
 -- ---- a refused call
 
 -- Its outcome is the refusal.
-not-refused : (M : System) (number line : ℕ) → verdictOf M ≡ JudgeRefused number line → ⊥
+pub not-refused : (M : System) (number line : ℕ) → verdictOf M ≡ JudgeRefused number line → ⊥
 unfolding verdictOf
 not-refused M number line = go (holds M)
   where

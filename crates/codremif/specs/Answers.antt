@@ -2,6 +2,7 @@
 -- From document 01, "Calls" and "When a call is turned away": the first number that fits refuses the call, and then no lent byte changes.
 -- Assumes nothing: these are definitions.
 use Prim.Native.Nat.{ℕ, _^_}
+use mathlib.Core.Path.{_≡_}
 use mathlib.Core.Bool.{Bool, true, false, cond}
 use mathlib.Core.List.{List}
 use lib.Dec.{leb, ltb}
@@ -78,6 +79,11 @@ setOutcome text S = refusedIf (leb (2 ^ modelOf text .rules) S) 10
 unfoldable pub lengthOutcome : List ℕ → List ℕ → Outcome
 unfolding refusedIf
 lengthOutcome new lent = refusedIf (ltb (length lent) (length new)) 11
+
+-- The text is accepted and read as the model m.
+pub record IsRead (text : List ℕ) (m : Model) : Type 0 where
+  pub outcome : textOutcome text ≡ Accepted
+  pub model : m ≡ modelOf text
 
 -- Judging a set needs one byte for each state of the trace; a set that holds needs none.
 unfoldable pub judgeOutcome : List ℕ → ℕ → List ℕ → Outcome

@@ -21,7 +21,7 @@ use Rattle.systems.specs.Judged.{judged}
 use Rattle.systems.specs.Meaning.{systemOf, judge}
 use Rattle.codremif.specs.declared.answers.JudgeAnswer.the-variants.{Holds, Broken}
 use Rattle.codremif.specs.Answers.{modelOf, systemIn, traceIn, coresIn, cutsIn, mustIn, _orElse_, refusedIf, textOutcome, judgeOutcome, listOutcome, verdictOf, verdictOn, countOf, setOf, judgeAnswer, coresAnswer, cutsAnswer, mustAnswer}
-use Rattle.codremif.specs.Packing.{Parts, accepted, refused, judgeParts, listParts, mustParts, packed, Unpacked, unpacked}
+use Rattle.codremif.specs.Packing.{InRange, Parts, accepted, refused, judgeParts, listParts, mustParts, packed, Unpacked, unpacked}
 use Rattle.models.specs.Ranges.{Refusal, ranges}
 
 -- ---- the numbers and lines of refusals
@@ -104,21 +104,24 @@ list-length R q h =
 
 -- ---- what the host reads
 
--- The parts p of an answer whose call has the outcome o: number 0 exactly if the call is accepted, and the packed number gives each part back.
+-- The parts p of an answer whose call has the outcome o: number 0 exactly if the call is accepted, each part fits its place, and so the packed
+-- number gives each part back.
 pub record HostReads (o : Outcome) (p : Parts) : Type 0 where
   pub zero : (p .number ≡ 0) ↔ (o ≡ Accepted)
+  pub range : InRange p
   pub parts : Unpacked p (packed p)
 
 refused-reads : (number line : ℕ) → 1 ≤ number → number ≤ 11 → line ≤ 21 → HostReads (Refused number line) (refused number line)
 unfolding refused
 refused-reads number line l h g = record {
   zero = (λ e. absurd (omega arith), λ e. cc);
+  range = omega arith;
   parts = unpacked (refused number line) (omega arith);
 }
 
 accepted-reads : (amount : ℕ) (b : Bool) → amount < 2 ^ 24 → HostReads Accepted (accepted amount b)
 unfolding accepted
-accepted-reads amount b h = record { zero = (λ _. refl, λ _. refl); parts = unpacked (accepted amount b) (omega arith) }
+accepted-reads amount b h = record { zero = (λ _. refl, λ _. refl); range = omega arith; parts = unpacked (accepted amount b) (omega arith) }
 
 verdict-reads : {o : Outcome} (M : System) → Numbered o → length (traceOf M) ≤ 128 → HostReads o (judgeParts (verdictOn o M))
 unfolding judgeParts verdictOn verdictOf

@@ -4,4 +4,5 @@ pub mod Answers
 pub mod AnswerLaws
 pub mod Packing
 pub mod Host
+pub mod Demand2
 pub mod Examples

@@ -1,0 +1,28 @@
+// An answer as the one 64-bit number that a C host gets.
+ghost use mathlib.Core.Path.{_≡_};
+ghost use Rattle.codremif.specs.Packing.{Parts, InRange, judgeParts, packed};
+use crate::answers::JudgeAnswer;
+
+// The number, plus 256 times the line, plus 65,536 times the amount, plus 2^40 for a verdict that holds.
+fn pack(number: u8, line: usize, amount: usize, holds: bool) -> u64
+    requires { ⌜ InRange (record { number = number; line = line; amount = amount; holds = holds }) ⌝ }
+    ensures { λ r. ⌜ r ≡ packed (record { number = number; line = line; amount = amount; holds = holds }) ⌝ }
+{
+    let parts = number as u64 + 256 * (line as u64) + 65536 * (amount as u64);
+    if holds {
+        parts + 1099511627776
+    } else {
+        parts
+    }
+}
+
+pub(crate) fn pack_judge(a: JudgeAnswer) -> u64
+    requires { ⌜ InRange (judgeParts a) ⌝ }
+    ensures { λ r. ⌜ r ≡ packed (judgeParts a) ⌝ }
+{
+    match a {
+        JudgeAnswer::Refused(number, line) => pack(number, line, 0, false),
+        JudgeAnswer::Holds => pack(0, 0, 0, true),
+        JudgeAnswer::Broken(states) => pack(0, 0, states, false),
+    }
+}
