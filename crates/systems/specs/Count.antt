@@ -1,8 +1,8 @@
--- How many numbers below a bound pass a test: at most the bound, and more if one more number passes.
+-- How many numbers below a bound pass a test: at most the bound, and more if one more number passes; one more if that is the only one.
 -- Assumes nothing.
 use Prim.Native.Nat.{ℕ, zero, suc, _+_, _≤_, _<_}
-use mathlib.Core.Path.{_≡_, refl, sym, ap, _∙_}
-use mathlib.Core.Logic.{⊎-elim}
+use mathlib.Core.Path.{_≡_, refl, sym, ap, ap₂, _∙_}
+use mathlib.Core.Logic.{_≢_, ⊎-elim}
 use mathlib.Core.Bool.{Bool, true, false, true≢false}
 use native.Mathlib.Nat.{eq-or-lt-of-le}
 use native.Mathlib.Omega.{arith}
@@ -51,3 +51,30 @@ module _ (p q : ℕ → Bool) (implies : (k : ℕ) → p k ≡ true → q k ≡ 
       (λ i. omega (arith, count-mono n, ap one (ap p (sym i) ∙ e), ap one (ap q (sym i) ∙ f)))
       (λ i. omega (arith, count-more n s i e f, one-le n))
       (eq-or-lt-of-le {n = s} {m = n} (omega arith))
+
+pub count-none : (p : ℕ → Bool) → ((k : ℕ) → p k ≡ false) → (n : ℕ) → count n p ≡ 0
+unfolding count
+count-none p none zero = refl
+count-none p none (suc n) = omega (arith, count-none p none n, ap one (none n))
+
+pub count-same : (p q : ℕ → Bool) (n : ℕ) → ((k : ℕ) → k < n → p k ≡ q k) → count n p ≡ count n q
+unfolding count
+count-same p q zero same = refl
+count-same p q (suc n) same = ap₂ (λ c b. c + one b) (count-same p q n (λ k h. same k (omega arith))) (same n (omega arith))
+
+-- Where s passes q alone, and every other number both tests or none, one more passes q.
+pub count-one-more : (p q : ℕ → Bool) (s : ℕ) → p s ≡ false → q s ≡ true → ((k : ℕ) → k ≢ s → p k ≡ q k) → (n : ℕ) → s < n
+    → count n q ≡ suc (count n p)
+unfolding count
+count-one-more p q s e f same zero h = absurd (omega arith)
+count-one-more p q s e f same (suc n) h =
+    ⊎-elim
+    (λ i.
+    omega (
+      arith,
+      count-same p q n (λ k g. same k (omega arith)),
+      ap one (ap p (sym i) ∙ e),
+      ap one (ap q (sym i) ∙ f),
+    ))
+    (λ i. omega (arith, count-one-more p q s e f same n i, ap one (same n (omega arith))))
+    (eq-or-lt-of-le {n = s} {m = n} (omega arith))

@@ -9,4 +9,8 @@ pub mod Breaks
 pub mod Depth
 pub mod Judged
 pub mod Compare
+pub mod Search
+pub mod Sooner
+pub mod SearchSteps
+pub mod SearchLaws
 pub mod Meaning

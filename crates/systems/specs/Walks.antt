@@ -48,14 +48,14 @@ unfolding last
 badwalk-rest b = record { walk = walk-rest (b .walk); ends = b .ends }
 
 -- A walk goes on by a step from its last state.
-walk-snoc : {M : System} {from : ℕ → Bool} (l : List ℕ) {t : ℕ} → Walk M from l → t < M .size → M .step (last l) t ≡ true
+pub walk-snoc : {M : System} {from : ℕ → Bool} (l : List ℕ) {t : ℕ} → Walk M from l → t < M .size → M .step (last l) t ≡ true
     → Walk M from (l ++ (t ∷ []))
 unfolding last
 walk-snoc [] w h e = absurd (omega (arith, w .nonempty))
 walk-snoc (s ∷ []) w h e = walk-cons (w .states zero (omega arith)) (w .first) (walk-one h e)
 walk-snoc (s ∷ u ∷ l) w h e = walk-cons (w .states zero (omega arith)) (w .first) (walk-snoc (u ∷ l) (walk-rest w) h e)
 
-last-snoc : (l : List ℕ) (t : ℕ) → last (l ++ (t ∷ [])) ≡ t
+pub last-snoc : (l : List ℕ) (t : ℕ) → last (l ++ (t ∷ [])) ≡ t
 unfolding last
 last-snoc [] t = refl
 last-snoc (s ∷ []) t = refl
