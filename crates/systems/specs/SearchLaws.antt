@@ -16,15 +16,17 @@ use lib.Dec.{eqb, leb, ltb}
 use lib.ListN.{length, getD, length-append, List·getD-append}
 use lib.Seq.{getD-append-seam}
 use Rattle.systems.specs.Least.{least, IsLeast, least-is-least}
-use Rattle.systems.specs.Count.{count, count-le, count-none, count-one-more}
+use Rattle.systems.specs.Count.{count, count-le, count-none, count-more, count-one-more}
 use Rattle.systems.specs.System.{System, last, Run, Breach, Reached, Trace}
 use Rattle.systems.specs.Walks.{walk-one, walk-snoc, walk-last, last-snoc}
 use Rattle.systems.specs.Verdict.{holds, traceOf}
 use Rattle.systems.specs.Judged.{judged, holds-iff}
 use Rattle.systems.specs.Compare.{Same, same-traceOf}
 use Rattle.systems.specs.Search.{isMarked, tryState, tryRow, explored, search, firstBad}
-use Rattle.systems.specs.Sooner.{Sooner, NoLater, sooner-trans, no-later-trans, sooner-snoc, sooner-last, walk-grows, no-later-snoc, no-later-length, no-later-first}
-use Rattle.systems.specs.SearchSteps.{RunTo, isMarked-nil, isMarked-snoc, isMarked-at, isMarked-run, tryState-taken, tryState-fails, tryState-marked, tryRow-same}
+use Rattle.systems.specs.Sooner.{Sooner, sooner-trans, sooner-snoc, sooner-last, walk-grows}
+use Rattle.systems.specs.Sooner.{NoLater, no-later-trans, no-later-snoc, no-later-length, no-later-first}
+use Rattle.systems.specs.SearchSteps.{RunTo, isMarked-nil, isMarked-snoc, isMarked-at, isMarked-run}
+use Rattle.systems.specs.SearchSteps.{tryState-taken, tryState-fails, tryState-marked, tryRow-same}
 use Rattle.systems.specs.SearchSteps.{explored-zero, explored-next, explored-ended, explored-stays, firstBad-at, firstBad-none}
 
 -- ---- a list with one run more
@@ -125,15 +127,39 @@ found-snoc {M} {q} {x} f run unmarked later = record {
     others s h =
         sym (or-false (isMarked q s)) ∙ ap (λ b. isMarked q s || b) (sym (ne-eqb (last x) s (λ e. h (sym e)))) ∙ sym (isMarked-snoc q x s)
 
+module _ {M : System} {q : List (List ℕ)} (f : Found M q) where
+  -- So there are at most as many as there are states,
+  pub found-short : length q ≤ M .size
+  found-short = omega (arith, f .counted, count-le (M .size) (isMarked q))
+
+  -- fewer while a state is not marked,
+  pub found-room : (s : ℕ) → s < M .size → isMarked q s ≡ false → length q < M .size
+  found-room s h e =
+      omega (
+        arith,
+        f .counted,
+        count-more (isMarked q) (λ _. true) (λ _ _. refl) (M .size) s h e refl,
+        count-le (M .size) (λ _. true),
+      )
+
+  -- and what is no state is not marked.
+  pub found-states : (s : ℕ) → M .size ≤ s → isMarked q s ≡ false
+  found-states s h = eq-false-of-not-eq-true none
+    where
+      none : isMarked q s ≡ true → ⊥
+      none e =
+          let m : RunTo q s = isMarked-run q s e in
+          omega (arith, m .ends, walk-last (getD q (m .place) []) (f .runs (m .place) (m .within)))
+
 -- ---- one run tried with the states below n
 
 -- After the states below n have been tried behind r, the runs q have become p. All of them are sooner than r with a later state, and
 -- a state that passed the test has a run that is no later.
-record Row (M : System) (next : ℕ → Bool) (r : List ℕ) (q : List (List ℕ)) (n : ℕ) (p : List (List ℕ)) : Type 0 where
-  found : Found M p
-  extends : Extends q p
-  front : (k t : ℕ) → k < length p → n ≤ t → Sooner (getD p k []) (r ++ (t ∷ []))
-  tried : (t : ℕ) → t < n → next t ≡ true → Ahead p (r ++ (t ∷ []))
+pub record Row (M : System) (next : ℕ → Bool) (r : List ℕ) (q : List (List ℕ)) (n : ℕ) (p : List (List ℕ)) : Type 0 where
+  pub found : Found M p
+  pub extends : Extends q p
+  pub front : (k t : ℕ) → k < length p → n ≤ t → Sooner (getD p k []) (r ++ (t ∷ []))
+  pub tried : (t : ℕ) → t < n → next t ≡ true → Ahead p (r ++ (t ∷ []))
 
 module _ {M : System} {next : ℕ → Bool} {r : List ℕ} {q : List (List ℕ)}
     (fits : (t : ℕ) → t < M .size → next t ≡ true → Run M (r ++ (t ∷ []))) where
@@ -192,6 +218,15 @@ record Explored (M : System) (i : ℕ) (q : List (List ℕ)) : Type 0 where
       → Ahead q (getD q j [] ++ (t ∷ []))
   front : i < length q → (k t : ℕ) → k < length q → Sooner (getD q k []) (getD q i [] ++ (t ∷ []))
 
+-- The start states are tried behind no state at all.
+pub start-row : (M : System) (n : ℕ) → n ≤ M .size → Row M (M .start) [] [] n (tryRow (M .start) [] n [])
+start-row M = row (λ t h e. walk-one h e) (record {
+  found = found-nil M;
+  extends = extends-refl [];
+  front = λ k t h. absurd (omega arith);
+  tried = λ t h. absurd (omega arith);
+})
+
 explored-starts : (M : System) → Explored M 0 (tryRow (M .start) [] (M .size) [])
 explored-starts M = record {
   found = w .found;
@@ -201,43 +236,48 @@ explored-starts M = record {
 }
   where
     w : Row M (M .start) [] [] (M .size) (tryRow (M .start) [] (M .size) [])
-    w = row (λ t h e. walk-one h e) (record {
-      found = found-nil M;
-      extends = extends-refl [];
-      front = λ k t h. absurd (omega arith);
-      tried = λ t h. absurd (omega arith);
-    }) (M .size) (omega arith)
+    w = start-row M (M .size) (omega arith)
 
     no-state : 0 < length (tryRow (M .start) [] (M .size) []) → Sooner [] (getD (tryRow (M .start) [] (M .size) []) 0 [])
     no-state h = record { shorter = omega arith; earlier = λ e. absurd (omega (arith, w .found .runs 0 h .nonempty)) }
 
-explored-more : {M : System} {i : ℕ} {q : List (List ℕ)} → Explored M i q → i < length q
-    → Explored M (i + 1) (tryRow (M .step (last (getD q i []))) (getD q i []) (M .size) q)
-explored-more {M} {i} {q} x h = record {
-  found = w .found;
-  starts = λ s g e. ahead-kept (w .extends) (x .starts s g e);
-  closed = λ j g _. below-more (λ j. (t : ℕ) → t < M .size → M .step (last (getD p j [])) t ≡ true → Ahead p (getD p j [] ++ (t ∷ []))) i
-      (λ j g t b e. rw (same j (omega arith)) (ahead-kept (w .extends) (x .closed j g (omega arith) t b (rw (same j (omega arith)) at e))))
-      (λ t b e. rw (same i h) (w .tried t b (rw (same i h) at e))) j g;
-  front = λ g k t b. sooner-trans (w .front k (M .size) b (omega arith)) (sooner-snoc (M .size) t (rw (same i h) at (w .found .ordered i (i + 1) (omega arith) g)));
-}
-  where
-    p : List (List ℕ)
-    p = tryRow (M .step (last (getD q i []))) (getD q i []) (M .size) q
+-- The states are tried behind the next run.
+module _ {M : System} {i : ℕ} {q : List (List ℕ)} (x : Explored M i q) (h : i < length q) where
+  next-row : (n : ℕ) → n ≤ M .size
+      → Row M (M .step (last (getD q i []))) (getD q i []) q n (tryRow (M .step (last (getD q i []))) (getD q i []) n q)
+  next-row = row (λ t b e. walk-snoc (getD q i []) (x .found .runs i h) b e) (record {
+    found = x .found;
+    extends = extends-refl q;
+    front = λ k t b _. x .front h k t b;
+    tried = λ t b. absurd (omega arith);
+  })
 
-    run : Run M (getD q i [])
-    run = x .found .runs i h
+  explored-more : Explored M (i + 1) (tryRow (M .step (last (getD q i []))) (getD q i []) (M .size) q)
+  explored-more = record {
+    found = w .found;
+    starts = λ s g e. ahead-kept (w .extends) (x .starts s g e);
+    closed = λ j g _. below-more Closed i earlier (λ t b e. rw (same i h) (w .tried t b (rw (same i h) at e))) j g;
+    front = λ g k t b.
+        sooner-trans (w .front k (M .size) b (omega arith))
+        (sooner-snoc (M .size) t (rw (same i h) at (w .found .ordered i (i + 1) (omega arith) g)));
+  }
+    where
+      p : List (List ℕ)
+      p = tryRow (M .step (last (getD q i []))) (getD q i []) (M .size) q
 
-    w : Row M (M .step (last (getD q i []))) (getD q i []) q (M .size) p
-    w = row (λ t b e. walk-snoc (getD q i []) run b e) (record {
-      found = x .found;
-      extends = extends-refl q;
-      front = λ k t b _. x .front h k t b;
-      tried = λ t b. absurd (omega arith);
-    }) (M .size) (omega arith)
+      w : Row M (M .step (last (getD q i []))) (getD q i []) q (M .size) p
+      w = next-row (M .size) (omega arith)
 
-    same : (k : ℕ) → k < length q → getD p k [] ≡ getD q k []
-    same = w .extends .kept
+      same : (k : ℕ) → k < length q → getD p k [] ≡ getD q k []
+      same = w .extends .kept
+
+      Closed : ℕ → Type 0
+      Closed j = (t : ℕ) → t < M .size → M .step (last (getD p j [])) t ≡ true → Ahead p (getD p j [] ++ (t ∷ []))
+
+      earlier : (j : ℕ) → j < i → Closed j
+      earlier j g t b e =
+          let k : getD p j [] ≡ getD q j [] = same j (omega arith) in
+          rw k (ahead-kept (w .extends) (x .closed j g (omega arith) t b (rw k at e)))
 
 explored-is : (M : System) (i : ℕ) → Explored M i (explored M i)
 explored-is M zero = rw (explored-zero M) (explored-starts M)
@@ -264,22 +304,18 @@ explored-is M (suc i) = go (explored-is M i)
 -- ---- the theorems
 
 module _ (M : System) where
-  -- At any time the runs found are runs, each sooner than the next, to as many states;
+  -- At any time the runs found are runs, each sooner than the next, to as many states.
   pub explored-found : (i : ℕ) → Found M (explored M i)
   explored-found i = explored-is M i .found
 
-  -- so there are at most as many as there are states,
   pub explored-short : (i : ℕ) → length (explored M i) ≤ M .size
-  explored-short i = omega (arith, explored-found i .counted, count-le (M .size) (isMarked (explored M i)))
+  explored-short i = found-short (explored-found i)
 
-  -- and what is no state is never marked.
-  pub explored-states : (i s : ℕ) → M .size ≤ s → isMarked (explored M i) s ≡ false
-  explored-states i s h = eq-false-of-not-eq-true none
-    where
-      none : isMarked (explored M i) s ≡ true → ⊥
-      none e =
-          let m : RunTo (explored M i) s = isMarked-run (explored M i) s e in
-          omega (arith, m .ends, walk-last (getD (explored M i) (m .place) []) (explored-found i .runs (m .place) (m .within)))
+  -- The same is true at any time between, while the run at place i is tried.
+  pub explored-row : (i : ℕ) → i < length (explored M i) → (n : ℕ) → n ≤ M .size
+      → Row M (M .step (last (getD (explored M i) i []))) (getD (explored M i) i []) (explored M i) n
+      (tryRow (M .step (last (getD (explored M i) i []))) (getD (explored M i) i []) n (explored M i))
+  explored-row i = next-row (explored-is M i)
 
   -- The search has ended as soon as every run found has been tried.
   pub search-ended : (i : ℕ) → length (explored M i) ≤ i → search M ≡ explored M i
@@ -305,9 +341,9 @@ module _ (M : System) where
           → Ahead (explored M (M .size)) (l ++ (t ∷ []))
       further l t h a e =
           let k : List ℕ = getD (explored M (M .size)) (a .place) [] in
-          let c : Ahead (explored M (M .size)) (k ++ (t ∷ [])) =
-          explored-is M (M .size) .closed (a .place) (omega (arith, a .within, explored-short (M .size))) (a .within) t h
-          (ap (λ s. M .step s t) (a .ends) ∙ e) in
+          let tried : a .place < M .size = omega (arith, a .within, explored-short (M .size)) in
+          let f : M .step (last k) t ≡ true = ap (λ s. M .step s t) (a .ends) ∙ e in
+          let c : Ahead (explored M (M .size)) (k ++ (t ∷ [])) = explored-is M (M .size) .closed (a .place) tried (a .within) t h f in
           record {
             place = c .place;
             within = c .within;
@@ -373,13 +409,15 @@ module _ (M : System) where
           firstBad-at M (search M) j h (is .passes h) (is .before)
           ∙ judged M .only (getD (search M) j []) (search-first j h (is .passes h) (is .before))
 
+      good : length (search M) ≤ j → (s : ℕ) → isMarked (search M) s ≡ true → M .bad s ≡ false
+      good h s m =
+          let r : RunTo (search M) s = isMarked-run (search M) s m in
+          ap (M .bad) (sym (r .ends)) ∙ is .before (r .place) (omega (arith, r .within))
+
       held : ltb j (length (search M)) ≡ false → firstBad M (search M) ≡ traceOf M
       held e =
           let h : length (search M) ≤ j = ltb-false j (length (search M)) e in
-          firstBad-none M (search M) (λ k g. is .before k (omega arith))
-          ∙ sym (judged M .held (holds-marks .1 (λ s m.
-          let r : RunTo (search M) s = isMarked-run (search M) s m in
-          ap (M .bad) (sym (r .ends)) ∙ is .before (r .place) (omega (arith, r .within)))))
+          firstBad-none M (search M) (λ k g. is .before k (omega arith)) ∙ sym (judged M .held (holds-marks .1 (good h)))
 
   -- It is empty exactly if the system holds.
   pub search-holds : (firstBad M (search M) ≡ []) ↔ (holds M ≡ true)

@@ -27,20 +27,20 @@ isMarked-snoc [] r s = or-false (eqb (last r) s)
 isMarked-snoc (p ∷ q) r s =
     ap (λ b. eqb (last p) s || b) (isMarked-snoc q r s) ∙ sym (or-assoc (eqb (last p) s) (isMarked q s) (eqb (last r) s))
 
--- The run found at a place marks its last state,
+-- The run at a place marks its last state;
 pub isMarked-at : (q : List (List ℕ)) (j : ℕ) → j < length q → isMarked q (last (getD q j [])) ≡ true
 unfolding isMarked
 isMarked-at [] j h = absurd (omega arith)
 isMarked-at (r ∷ q) zero h = ap (λ b. b || isMarked q (last r)) (eq-eqb (last r) (last r) refl)
 isMarked-at (r ∷ q) (suc j) h = or-inr (eqb (last r) (last (getD q j []))) (isMarked q (last (getD q j []))) (isMarked-at q j (omega arith))
 
--- One of the runs found ends in state s.
+-- One of the runs ends in state s.
 pub record RunTo (q : List (List ℕ)) (s : ℕ) : Type 0 where
   pub place : ℕ
   pub within : place < length q
   pub ends : last (getD q place []) ≡ s
 
--- and a marked state is the last state of the run at some place.
+-- A marked state is the last state of the run at some place.
 pub isMarked-run : (q : List (List ℕ)) (s : ℕ) → isMarked q s ≡ true → RunTo q s
 unfolding isMarked
 isMarked-run [] s e = absurd (false≢true e)
@@ -98,7 +98,7 @@ module _ (M : System) where
   unfolding explored
   explored-next i h = rw (add-one, lt-ltb i (length (explored M i)) h)
 
-  -- where there is none, the search has ended.
+  -- where there is none, the search has ended
   pub explored-ended : (i : ℕ) → length (explored M i) ≤ i → explored M (i + 1) ≡ explored M i
   unfolding explored
   explored-ended i h = rw (add-one, le-ltb i (length (explored M i)) h)
