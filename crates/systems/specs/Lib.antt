@@ -15,3 +15,5 @@ pub mod Sooner
 pub mod SearchSteps
 pub mod SearchLaws
 pub mod Meaning
+pub mod Tabled
+pub mod Stored

@@ -1,1 +1,3 @@
 // Transition systems over states that are numbers: runs, reached states, verdict and trace.
+pub mod runs;
+pub mod search;
