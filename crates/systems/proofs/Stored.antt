@@ -161,7 +161,7 @@ module _ {x : Runs} (s : Sound x) where
 
 -- ---- before the first mark
 
-getD-repeat : {A : Type 0} (n k : ℕ) (a : A) → getD (replicate n a) k a ≡ a
+pub getD-repeat : {A : Type 0} (n k : ℕ) (a : A) → getD (replicate n a) k a ≡ a
 getD-repeat zero k a = refl
 getD-repeat (suc n) zero a = refl
 getD-repeat (suc n) (suc k) a = getD-repeat n k a

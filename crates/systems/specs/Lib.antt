@@ -17,3 +17,4 @@ pub mod SearchLaws
 pub mod Meaning
 pub mod Tabled
 pub mod Stored
+pub mod Traced

@@ -15,8 +15,9 @@ use lib.Seq.{getD-at}
 use Rattle.systems.specs.Count.{count, count-past, count-same}
 use Rattle.systems.specs.System.{System}
 use Rattle.systems.specs.System as Means
+use Rattle.systems.specs.Compare.{Same}
 use Rattle.systems.specs.Search.{isMarked, search}
-use Rattle.systems.specs.SearchLaws.{found-states, search-found, marks}
+use Rattle.systems.specs.SearchLaws.{found-states, search-found, marks, same-search}
 use Rattle.systems.specs.declared.runs.Reached.{Reached}
 use Rattle.systems.specs.declared.runs.Runs.{Runs}
 
@@ -119,3 +120,8 @@ module _ (M : System) (small : M .size ≤ 128) where
       search-found M .counted
       ∙ sym (count-past (isMarked (search M)) (M .size) (found-states (search-found M)) 128 small)
       ∙ count-same (isMarked (search M)) (λ s. getD (reachedOf M .marks) s false) 128 (λ s _. sym (marks-all s))
+
+-- Systems that agree on their states have the same reached states.
+pub same-reachedOf : {N M : System} → Same N M → reachedOf N ≡ reachedOf M
+unfolding reachedOf
+same-reachedOf e = ap (λ q. record { marks = marksTo q 128; count = length q }) (same-search e)
