@@ -25,4 +25,3 @@ fn put_front(states: [u8; 128], n: usize, lent: &mut [u8])
         i += 1;
     }
 }
-

@@ -9,11 +9,7 @@ fn pack(number: u8, line: usize, amount: usize, holds: bool) -> u64
     ensures { λ r. ⌜ r ≡ packed (record { number = number; line = line; amount = amount; holds = holds }) ⌝ }
 {
     let parts = number as u64 + 256 * (line as u64) + 65536 * (amount as u64);
-    if holds {
-        parts + 1099511627776
-    } else {
-        parts
-    }
+    if holds { parts + 1099511627776 } else { parts }
 }
 
 pub(crate) fn pack_judge(a: JudgeAnswer) -> u64

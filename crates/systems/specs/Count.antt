@@ -1,9 +1,10 @@
--- How many numbers below a bound pass a test: at most the bound, and more if one more number passes; one more if that is the only one.
--- Assumes nothing.
+-- How many numbers below a bound pass a test: at most the bound, and more if one more number passes; one more if that is the only one;
+-- no more past the last number that passes. Assumes nothing.
 use Prim.Native.Nat.{ℕ, zero, suc, _+_, _≤_, _<_}
 use mathlib.Core.Path.{_≡_, refl, sym, ap, ap₂, _∙_}
 use mathlib.Core.Logic.{_≢_, ⊎-elim}
 use mathlib.Core.Bool.{Bool, true, false, true≢false}
+use native.Mathlib.Decide.{le-ind}
 use native.Mathlib.Nat.{eq-or-lt-of-le}
 use native.Mathlib.Omega.{arith}
 
@@ -78,3 +79,8 @@ count-one-more p q s e f same (suc n) h =
     ))
     (λ i. omega (arith, count-one-more p q s e f same n i, ap one (same n (omega arith))))
     (eq-or-lt-of-le {n = s} {m = n} (omega arith))
+
+-- Where no number from n on passes, a bound past n changes nothing.
+pub count-past : (p : ℕ → Bool) (n : ℕ) → ((k : ℕ) → n ≤ k → p k ≡ false) → (m : ℕ) → n ≤ m → count m p ≡ count n p
+unfolding count
+count-past p n none = le-ind (λ m. count m p ≡ count n p) refl (λ m h e. omega (arith, e, ap one (none m h)))

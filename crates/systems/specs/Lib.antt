@@ -18,3 +18,7 @@ pub mod SearchLaws
 pub mod Meaning
 pub mod Tabulated
 pub mod Tables
+pub mod Tabled
+pub mod Stored
+pub mod Traced
+pub mod TablesTell

@@ -1,2 +1,6 @@
 // Transition systems over states that are numbers: runs, reached states, verdict and trace.
+pub mod judging;
+pub mod runs;
+pub mod search;
 pub mod tables;
+pub mod trace;

@@ -1,0 +1,20 @@
+// Judging a set of a model's rules.
+ghost use mathlib.Core.Path.{_≡_};
+ghost use Prim.Native.Nat.{_^_, _≤_, _<_};
+ghost use Rattle.systems.specs.Meaning.{systemOf};
+ghost use Rattle.systems.specs.Traced.{traceIn};
+use crate::trace::Trace;
+use models::model::Model;
+
+// The trace of a set of the model's rules; a set that holds has none. The tables are computed once.
+pub fn trace_in(text: &[u8], m: Model, set: u16) -> Trace
+    requires { ⌜ (m .vars ≤ 7) × (m .rules ≤ 16) ⌝ }
+    requires { ⌜ set < 2 ^ m .rules ⌝ }
+    ensures { λ r. ⌜ r ≡ traceIn (systemOf (now (text .entry)) m set) ⌝ }
+{
+    let masks = crate::tables::pair_masks(text, m);
+    let starts = crate::tables::start_marks(text, m);
+    let bads = crate::tables::bad_marks(text, m);
+    let states = crate::tables::state_count(m.vars);
+    crate::trace::trace_of(&masks, starts, bads, states, set)
+}

@@ -1,0 +1,35 @@
+// How a search holds what it has found.
+ghost use mathlib.Core.Path.{_≡_};
+ghost use Prim.Native.Nat.{_<_};
+ghost use Rattle.systems.specs.Stored.{withRun};
+
+// The reached states as document 01 holds them: a mark for each, and how many marks are set.
+pub struct Reached {
+    pub marks: [bool; 128],
+    pub count: usize,
+}
+
+// The reached states so far, with a run to each. The runs stand in the order of marking: `order` has their last states, and `parents` the
+// places of the runs that they extend by that state, 128 where the state stands alone.
+pub struct Runs {
+    pub marks: [bool; 128],
+    pub count: usize,
+    pub order: [u8; 128],
+    pub parents: [u8; 128],
+}
+
+// State t is marked, behind the run at place `parent`.
+pub fn mark(x: Runs, parent: usize, t: usize) -> Runs
+    requires { ⌜ x .count < 128 ⌝ }
+    requires { ⌜ t < 128 ⌝ }
+    requires { ⌜ parent < 256 ⌝ }
+    ensures { λ r. ⌜ r ≡ withRun x parent t ⌝ }
+{
+    let n = x.count;
+    let mut y = x;
+    y.marks[t] = true;
+    y.count = n + 1;
+    y.order[n] = t as u8;
+    y.parents[n] = parent as u8;
+    y
+}

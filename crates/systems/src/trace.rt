@@ -1,0 +1,77 @@
+// The trace of a set: the first run that the search finds to a bad state.
+ghost use mathlib.Core.Path.{_≡_};
+ghost use mathlib.Core.List.{[]};
+ghost use Prim.Native.Nat.{_≤_};
+ghost use lib.ListN.{length, getD};
+ghost use Rattle.systems.specs.Least.{least};
+ghost use Rattle.systems.specs.Tabled.{marked, tabled};
+ghost use Rattle.systems.specs.Stored.{runsIn, Sound};
+ghost use Rattle.systems.specs.Traced.{traceWith, traceIn};
+use crate::runs::Runs;
+
+// So many states; what follows them is 0. A set that holds has none.
+pub struct Trace {
+    pub length: usize,
+    pub states: [u8; 128],
+}
+
+// The place of the first run to a bad state; the number of runs if there is none.
+fn first_bad(bads: [bool; 128], x: Runs) -> usize
+    requires { ⌜ Sound x ⌝ }
+    ensures { λ r. ⌜ r ≡ least (x .count) (λ k. marked bads (getD (x .order) k 0)) ⌝ }
+{
+    let mut j = 0;
+    while j < x.count {
+        let s = x.order[j] as usize;
+        if bads[s] {
+            return j;
+        }
+        j += 1;
+    }
+    j
+}
+
+// How many states the run at place j has.
+fn run_length(x: Runs, j: usize) -> usize
+    requires { ⌜ Sound x ⌝ }
+    ensures { λ r. ⌜ r ≡ length (getD (runsIn x) j []) ⌝ }
+{
+    let mut n = 0;
+    let mut at = j;
+    while at < x.count {
+        at = x.parents[at] as usize;
+        n += 1;
+    }
+    n
+}
+
+// The run at place j, written from its end, where the parents begin.
+fn run_at(x: Runs, j: usize) -> Trace
+    requires { ⌜ Sound x ⌝ }
+    ensures { λ r. ⌜ r ≡ traceWith (getD (runsIn x) j []) ⌝ }
+{
+    let length = run_length(x, j);
+    let mut states = [0; 128];
+    let mut n = length;
+    let mut at = j;
+    while at < x.count {
+        n -= 1;
+        states[n] = x.order[at];
+        at = x.parents[at] as usize;
+    }
+    Trace { length, states }
+}
+
+pub fn trace_of(
+    masks: &[u16; 16384],
+    starts: [bool; 128],
+    bads: [bool; 128],
+    states: usize,
+    set: u16,
+) -> Trace
+    requires { ⌜ states ≤ 128 ⌝ }
+    ensures { λ r. ⌜ r ≡ traceIn (tabled (now (masks .entry)) starts bads states set) ⌝ }
+{
+    let x = crate::search::explore(masks, starts, states, set);
+    run_at(x, first_bad(bads, x))
+}
