@@ -3,7 +3,10 @@ ghost use mathlib.Core.Path.{_≡_};
 ghost use Prim.Native.Nat.{_^_, _≤_};
 ghost use lib.ListN.{length, take};
 ghost use Rattle.sets.specs.Lists.{overwritten};
-ghost use Rattle.codremif.specs.Answers.{IsRead};
+ghost use Rattle.codremif.specs.Answers.{IsRead, judgeAnswer, judgeBytes};
+use crate::answers::JudgeAnswer;
+use models::model::Model;
+use models::model::Outcome;
 
 // How many sets of so many rules there are.
 fn set_count(rules: usize) -> u32
@@ -16,6 +19,7 @@ fn set_count(rules: usize) -> u32
 // The first n states go to the front of the lent bytes; what is past them keeps its content.
 fn put_front(states: [u8; 128], n: usize, lent: &mut [u8])
     requires { ⌜ n ≤ 128 ⌝ }
+    requires { ⌜ n ≤ length states ⌝ }
     requires { ⌜ n ≤ length (now lent) ⌝ }
     ensures { λ _. ⌜ now (lent .exit) ≡ overwritten (take n states) (now (lent .entry)) ⌝ }
 {
@@ -23,5 +27,43 @@ fn put_front(states: [u8; 128], n: usize, lent: &mut [u8])
     while i < n {
         lent[i] = states[i];
         i += 1;
+    }
+}
+
+// The trace is found before it is known whether it fits, so that 11 is answered for this trace and not for the longest one.
+fn judge_model(text: &[u8], m: Model, set: u32, lent: &mut [u8]) -> JudgeAnswer
+    requires { ⌜ IsRead (now text) m ⌝ }
+    ensures { λ r. ⌜ r ≡ judgeAnswer (now (text .entry)) set (now (lent .entry)) ⌝ }
+    ensures { λ _. ⌜ now (lent .exit) ≡ judgeBytes (now (text .entry)) set (now (lent .entry)) ⌝ }
+{
+    if set_count(m.rules) <= set {
+        return JudgeAnswer::Refused(10, 0);
+    }
+    let trace = systems::judging::trace_in(text, m, set as u16);
+    let n = trace.length;
+    if lent.len() < n {
+        return JudgeAnswer::Refused(11, 0);
+    }
+    if n == 0 {
+        return JudgeAnswer::Holds;
+    }
+    let states = trace.states;
+    put_front(states, n, lent);
+    JudgeAnswer::Broken(n)
+}
+
+// Judges a set of the rules of a model text.
+pub fn judge(text: &[u8], set: u32, lent: &mut [u8]) -> JudgeAnswer
+    ensures { λ r. ⌜ r ≡ judgeAnswer (now (text .entry)) set (now (lent .entry)) ⌝ }
+    ensures { λ _. ⌜ now (lent .exit) ≡ judgeBytes (now (text .entry)) set (now (lent .entry)) ⌝ }
+{
+    let reading = models::model::read_model(text);
+    let outcome = reading.outcome;
+    match outcome {
+        Outcome::Refused(number, line) => JudgeAnswer::Refused(number, line),
+        Outcome::Accepted => {
+            let m = reading.model;
+            judge_model(text, m, set, lent)
+        }
     }
 }
