@@ -1,6 +1,7 @@
 -- Transition systems. Read `System` for the meanings, `Verdict` for the functions that compute, `Judged` for the theorem that joins them.
 -- `Compare` has Lemma 1 of source document 000 and sameness. `Search` is the breadth-first search that code makes, and `SearchLaws` proves
--- that it finds the reached states and the trace. The other files have the laws that these rest on. Assumes nothing.
+-- that it finds the reached states and the trace. `Tabled` is the system that tables give, `Stored` and `Traced` are what code answers for it.
+-- The other files have the laws that these rest on. Assumes nothing.
 pub mod Least
 pub mod Count
 pub mod System
