@@ -1,5 +1,5 @@
--- How the arrays of a search hold the runs found, and the reached states as a struct. Its laws: the marks are the reached states, and the
--- count is how many marks are set. From the laws of the search. Assumes nothing.
+-- How the arrays of a search hold the runs found, and the reached states as a struct. Its laws: the marks are the reached states, the count
+-- is how many marks are set, and bad states make no difference. From the laws of the search. Assumes nothing.
 use Prim.Native.Nat.{ℕ, zero, suc, _+_, _≤_, _<_}
 use mathlib.Core.Path.{_≡_, refl, sym, ap, _∙_}
 use mathlib.Core.Logic.{_↔_, ⊎-elim}
@@ -17,6 +17,7 @@ use Rattle.systems.specs.System.{System}
 use Rattle.systems.specs.System as Means
 use Rattle.systems.specs.Compare.{Same}
 use Rattle.systems.specs.Search.{isMarked, search}
+use Rattle.systems.specs.Tabled.{tabled, search-any-bads}
 use Rattle.systems.specs.SearchLaws.{found-states, search-found, marks, same-search}
 use Rattle.systems.specs.declared.runs.Reached.{Reached}
 use Rattle.systems.specs.declared.runs.Runs.{Runs}
@@ -30,6 +31,7 @@ runsTo order parents (suc n) =
     let q = runsTo order parents n in
     q ++ ((getD q (getD parents n 0) [] ++ (getD order n 0 ∷ [])) ∷ [])
 
+-- All of them.
 unfoldable pub runsIn : Runs → List (List ℕ)
 unfolding runsTo
 runsIn x = runsTo (x .order) (x .parents) (x .count)
@@ -72,10 +74,15 @@ unfolding isMarked
 marksTo q zero = []
 marksTo q (suc n) = marksTo q n ++ (isMarked q n ∷ [])
 
+-- The states that the runs end in.
+unfoldable pub reachedBy : List (List ℕ) → Reached
+unfolding marksTo
+reachedBy q = record { marks = marksTo q 128; count = length q }
+
 -- The reached states of a system, whose states are below 128.
 unfoldable pub reachedOf : System → Reached
-unfolding marksTo search
-reachedOf M = record { marks = marksTo (search M) 128; count = length (search M) }
+unfolding reachedBy search
+reachedOf M = reachedBy (search M)
 
 module _ (q : List (List ℕ)) where
   pub length-marks : (n : ℕ) → length (marksTo q n) ≡ n
@@ -121,7 +128,12 @@ module _ (M : System) (small : M .size ≤ 128) where
       ∙ sym (count-past (isMarked (search M)) (M .size) (found-states (search-found M)) 128 small)
       ∙ count-same (isMarked (search M)) (λ s. getD (reachedOf M .marks) s false) 128 (λ s _. sym (marks-all s))
 
--- Systems that agree on their states have the same reached states.
+-- Systems that agree on their states have the same reached states, and so have those that differ in their bad states alone.
 pub same-reachedOf : {N M : System} → Same N M → reachedOf N ≡ reachedOf M
 unfolding reachedOf
-same-reachedOf e = ap (λ q. record { marks = marksTo q 128; count = length q }) (same-search e)
+same-reachedOf e = ap reachedBy (same-search e)
+
+pub reached-any-bads : (masks : List ℕ) (starts bads : List Bool) (states set : ℕ)
+    → reachedOf (tabled masks starts bads states set) ≡ reachedOf (tabled masks starts [] states set)
+unfolding reachedOf
+reached-any-bads masks starts bads states set = ap reachedBy (search-any-bads masks starts bads states set)

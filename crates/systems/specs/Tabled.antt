@@ -18,11 +18,12 @@ marked marks s = getD marks s false
 unfoldable pub stepIn : List ℕ → ℕ → ℕ → ℕ → Bool
 stepIn masks set s t = eqb (bitAnd (getD masks (128 * s + t) 0) set) set
 
+-- The system of the set.
 unfoldable pub tabled : (masks : List ℕ) (starts bads : List Bool) (states set : ℕ) → System
 unfolding marked stepIn
 tabled masks starts bads states set = record { size = states; start = marked starts; step = stepIn masks set; bad = marked bads }
 
-module _ (masks : List ℕ) (starts : List Bool) (states set : ℕ) (bads : List Bool) where
+module _ (masks : List ℕ) (starts bads : List Bool) (states set : ℕ) where
   explored-any-bads : (i : ℕ) → explored (tabled masks starts bads states set) i ≡ explored (tabled masks starts [] states set) i
   unfolding explored tabled
   explored-any-bads zero = refl

@@ -1,7 +1,7 @@
 -- The trace of a transition system as a struct. Its laws: it has no state exactly if the system holds, its first states are the trace, and
 -- systems that agree on their states have the same one. From `Judged` and `Compare`. Assumes nothing.
 use Prim.Native.Nat.{ℕ, _-_, _≤_}
-use mathlib.Core.Path.{_≡_, refl, ap}
+use mathlib.Core.Path.{_≡_, ap}
 use mathlib.Core.Logic.{_↔_}
 use mathlib.Core.Bool.{true}
 use mathlib.Core.List.{List, _++_}

@@ -11,15 +11,15 @@ pub struct Reached {
 
 // The reached states so far, with a run to each. The runs stand in the order of marking: `order` has their last states, and `parents` the
 // places of the runs that they extend by that state, 128 where the state stands alone.
-pub struct Runs {
-    pub marks: [bool; 128],
-    pub count: usize,
-    pub order: [u8; 128],
-    pub parents: [u8; 128],
+pub(crate) struct Runs {
+    pub(crate) marks: [bool; 128],
+    pub(crate) count: usize,
+    pub(crate) order: [u8; 128],
+    pub(crate) parents: [u8; 128],
 }
 
 // State t is marked, behind the run at place `parent`.
-pub fn mark(x: Runs, parent: usize, t: usize) -> Runs
+pub(crate) fn mark(x: Runs, parent: usize, t: usize) -> Runs
     requires { ⌜ x .count < 128 ⌝ }
     requires { ⌜ t < 128 ⌝ }
     requires { ⌜ parent < 256 ⌝ }

@@ -51,7 +51,7 @@ fn try_row(masks: &[u16; 16384], states: usize, set: u16, i: usize, x: Runs) -> 
 }
 
 // Every run is tried once, in the order of marking.
-pub fn explore(masks: &[u16; 16384], starts: [bool; 128], states: usize, set: u16) -> Runs
+pub(crate) fn explore(masks: &[u16; 16384], starts: [bool; 128], states: usize, set: u16) -> Runs
     requires { ⌜ states ≤ 128 ⌝ }
     ensures { λ r. ⌜ Stores (search (tabled (now (masks .entry)) starts [] states set)) r ⌝ }
 {

@@ -6,8 +6,7 @@ use mathlib.Core.Logic.{⊎-elim}
 use mathlib.Core.List.{[]}
 use native.Mathlib.Omega.{arith}
 use Rattle.systems.specs.Tabled.{marked}
-use Rattle.systems.specs.Search.{tryRow}
-use Rattle.systems.specs.Stored.{noRuns, Stores}
+use Rattle.systems.specs.Stored.{noRuns}
 use Rattle.systems.proofs.Stored.{Row, row-start, row-unmarked, first-passed, first-taken, sound-room}
 use Rattle.systems.proofs.search.find_starts.Statement.{statement}
 use Rattle.systems.proofs.search.find_starts.Tie as tie

@@ -1,18 +1,18 @@
 -- `systems::search::try_row` meets its contract. The loop's invariant: the states below t have been tried behind the run at place i.
 -- Assumes nothing.
-use Prim.Native.Nat.{ℕ, _-_, _≤_}
-use mathlib.Core.Path.{_≡_, ap, _∙_}
+use Prim.Native.Nat.{_-_, _≤_, _<_}
+use mathlib.Core.Path.{_≡_, _∙_}
 use mathlib.Core.Logic.{⊎-elim}
 use native.Mathlib.Omega.{arith}
 use borrow.Author.Needs.{needs}
 use Rattle.systems.specs.Tabled.{stepIn}
 use Rattle.systems.specs.Stored.{runsIn}
-use Rattle.systems.proofs.Stored.{Row, row-none, row-passed, row-taken, row-room, sound-few}
+use Rattle.systems.proofs.Stored.{Row, row-none, row-passed, row-room, row-taken, sound-few}
 use Rattle.systems.proofs.search.try_row.Statement.{statement}
 use Rattle.systems.proofs.search.try_row.Tie as tie
 
 abbrev Inv-loop : tie.InvT-loop
-Inv-loop masks states set i s y₀ t₀ y t = (t ≤ states) × Row (stepIn masks set s) i (runsIn y₀) t y
+Inv-loop masks states set i s y₀ t₀ y t = (s < 128) × (t ≤ states) × Row (stepIn masks set s) i (runsIn y₀) t y
 
 abbrev μ-loop : tie.MeasureT-loop
 μ-loop masks states set i s y₀ t₀ y t = states - t
@@ -25,29 +25,29 @@ try-row-spec =
     Inv-loop
     μ-loop
     (λ c. omega (arith, sound-few (c .pre .1 .0)))
-    (λ c. record { fits = omega (arith, c .before .pre .1 .0 .states (c .before .args .i) (c .before .pre .1 .1)) })
-    (λ c. (omega arith, row-none (c .before .pre .1 .0) (λ _. c .before .pre .1 .1)))
-    (λ c. let b = c .before .before .before in record { fits = omega (arith, b .pre .1 .0 .states (b .args .i) (b .pre .1 .1)) })
-    (λ c. let b = c .before .before .before in record { fits = omega (arith, b .pre .1 .0 .states (b .args .i) (b .pre .1 .1)) })
-    (λ c. let b = c .before .before .before in record { fits = omega (arith, b .pre .1 .0 .states (b .args .i) (b .pre .1 .1)) })
-    (λ c. let b = c .before .before .before in omega (arith, b .pre .1 .0 .states (b .args .i) (b .pre .1 .1)))
+    (λ c. search needs)
+    (λ c.
+    let p = c .before .pre .1 in
+    (p .0 .states (c .before .args .i) (p .1), omega arith, row-none (p .0) (λ _. p .1)))
+    (λ c. omega arith)
+    (λ c. omega arith)
+    (λ c. omega arith)
+    (λ c. omega arith)
     (λ c. omega arith)
     (λ c κs.
-    let b = c .before .before .before .before .before .before in
-    let l = c .before .before .before .before .loop in
-    (row-room (l .inv .1) (omega arith) (c .if1 .taken), (omega arith, omega (arith, sound-few (b .pre .1 .0)))))
+    let p = c .before .before .before .before .before .before .pre .1 in
+    (row-room (c .before .before .before .before .loop .inv .2) (omega arith) (c .if1 .taken), (omega arith, omega (arith, sound-few (p .0)))))
     (λ c. omega arith)
     (λ c. omega arith)
     (λ c.
-    let l = c .before .before .before .before .loop in (
+    let w = c .before .before .before .before .loop .inv .2 in (
+      c .before .before .before .before .loop .inv .0,
       omega arith,
       ⊎-elim
-          (λ w. rw (w .2 ∙ w .1 .ensures) (row-taken (l .inv .1) (omega arith) (w .0 .taken)))
-          (λ w. rw (w .1) (row-passed (l .inv .1) (w .0 .left)))
+          (λ h. rw (h .2 ∙ h .1 .ensures) (row-taken w (omega arith) (h .0 .taken)))
+          (λ h. rw (h .1) (row-passed w (h .0 .left)))
           (c .if1 .came),
     ))
     (λ c.
-    let l = c .before .loop in
-    let a = c .before .before .before .args in
-    let end : l .t ≡ a .states = omega arith in
-    rw end at (l .inv .1 .stores)))
+    let end : c .before .loop .t ≡ c .before .before .before .args .states = omega arith in
+    rw end at (c .before .loop .inv .2 .stores)))

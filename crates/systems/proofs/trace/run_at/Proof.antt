@@ -1,11 +1,10 @@
 -- `systems::trace::run_at` meets its contract. The loop's invariant: all but the first n states of the run are written, and those n are the run
 -- that is left. Assumes nothing.
-use mathlib.Core.Path.{_≡_, ap, _∙_}
+use mathlib.Core.Path.{ap, _∙_}
 use mathlib.Core.List.{[]}
 use native.Mathlib.Omega.{arith}
 use borrow.Author.Needs.{needs}
 use lib.ListN.{getD}
-use Rattle.systems.specs.declared.trace.Trace.{Trace}
 use Rattle.systems.specs.Stored.{runsIn}
 use Rattle.systems.proofs.Stored.{sound-few, sound-run}
 use Rattle.systems.proofs.Traces.{run-past, run-longer, run-short, Writes, writes-none, writes-more, writes-all}

@@ -27,6 +27,6 @@ trace-of-spec =
     ∙ ap traceWith
     (ap (λ j. getD (runsIn (e .result)) j []) (c .before .first-bad .ensures)
     ∙ stored-trace M (record {
-      runs = e .ensures .runs ∙ sym (search-any-bads (a .masks .now) (a .starts) (a .states) (a .set) (a .bads));
+      runs = e .ensures .runs ∙ sym (search-any-bads (a .masks .now) (a .starts) (a .bads) (a .states) (a .set));
       sound = e .ensures .sound;
     }))))
