@@ -1,7 +1,7 @@
 -- The laws of the answers: each call is refused by the first number that fits and accepted where none does, a refused call changes no lent
 -- byte, and an accepted one answers and writes what the text means. From the definitions in `Answers`, case by case. Assumes nothing.
 use Prim.Native.Nat.{ℕ, _*_, _^_, _≤_, _<_}
-use mathlib.Core.Path.{_≡_}
+use mathlib.Core.Path.{_≡_, ap}
 use mathlib.Core.Logic.{_⊎_, inl, inr, ⊎-elim}
 use mathlib.Core.Bool.{Bool, true, false, cond}
 use mathlib.Core.List.{List}
@@ -52,6 +52,16 @@ list-numbers text sets lent = record {
   byLength = λ e l. rw (e, lt-ltb (length lent) (length (bytesOf sets)) (omega (arith, length-bytesOf sets)));
   byNone = λ e l. rw (e, le-ltb (length lent) (length (bytesOf sets)) (omega (arith, length-bytesOf sets)));
 }
+
+-- ---- the verdict of a system
+
+pub verdict-held : (M : System) → holds M ≡ true → verdictOf M ≡ Holds
+unfolding verdictOf
+verdict-held M e = ap (λ b. cond b Holds (Broken (length (traceOf M)))) e
+
+pub verdict-broken : (M : System) → holds M ≡ false → verdictOf M ≡ Broken (length (traceOf M))
+unfolding verdictOf
+verdict-broken M e = ap (λ b. cond b Holds (Broken (length (traceOf M)))) e
 
 -- ---- an accepted call answers and writes what the text means
 

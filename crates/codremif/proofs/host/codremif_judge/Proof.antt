@@ -1,26 +1,19 @@
+-- `codremif::host::codremif_judge` meets its contract: the answer is packed, and its parts fit their places for every text.
+-- Assumes nothing.
+use mathlib.Core.Path.{_≡_, ap, _∙_}
 use borrow.Author.Needs.{needs}
+use Rattle.codremif.specs.Host.{judge-reads}
+use Rattle.codremif.specs.Packing.{InRange, judgeParts, packed}
 use Rattle.codremif.proofs.host.codremif_judge.Statement.{statement}
 use Rattle.codremif.proofs.host.codremif_judge.Tie as tie
-use Rattle.codremif.proofs.host.codremif_judge.Reads as reads
-use Rattle.codremif.proofs.host.codremif_judge.Lts as lts
-use Rattle.codremif.proofs.judging.judge.Reads as judge-reads
-use Rattle.codremif.proofs.packing.pack_judge.Reads as pack-judge-reads
-
--- src/host.rt:11:32
-judge-requires : tie.Need-judge-requires
-judge-requires c κs = search needs
-
--- src/host.rt:11:5
-pack-judge-requires : tie.Need-pack-judge-requires
-pack-judge-requires c κs = ?
-
--- src/host.rt:6:1
-same-length : tie.Need-same-length
-same-length c = search needs
-
--- src/host.rt:6:1
-returns : tie.Need-returns
-returns c = ?
 
 pub codremif-judge-spec : {M : Type 1} → statement M
-codremif-judge-spec = tie.close (tie.spec judge-requires pack-judge-requires same-length returns)
+codremif-judge-spec =
+    tie.close
+    (tie.spec
+    (λ c κs. search needs)
+    (λ c κs.
+    let a = c .before .before .before .before .before .before .args in
+    rw (c .before .before .judge .ensures .0) (judge-reads (a .text .now) (a .set) (a .trace .now) .range))
+    (λ c. search needs)
+    (λ c. (c .pack-judge .ensures ∙ ap (λ a. packed (judgeParts a)) (c .before .before .before .judge .ensures .0), c .before .before .before .judge .ensures .1)))

@@ -1,47 +1,24 @@
+-- `codremif::judging::judge` meets its contract: a refused text is answered by its number and line, and an accepted one is judged as it is read.
+-- Assumes nothing.
+use mathlib.Core.Path.{_≡_, sym, ap, _∙_}
 use borrow.Author.Needs.{needs}
+use Rattle.codremif.specs.Answers.{textOutcome, modelOf}
+use Rattle.codremif.proofs.JudgeFacts.{by-text}
 use Rattle.codremif.proofs.judging.judge.Statement.{statement}
 use Rattle.codremif.proofs.judging.judge.Tie as tie
-use Rattle.codremif.proofs.judging.judge.Reads as reads
-use Rattle.codremif.proofs.judging.judge.Lts as lts
-use Rattle.codremif.proofs.judging.judge_model.Reads as judge-model-reads
-use Rattle.models.proofs.model.read_model.Reads as read-model-reads
-
--- src/judging.rt:60:9
-read-model-requires : tie.Need-read-model-requires
-read-model-requires c κs = search needs
-
--- src/judging.rt:63:26
-enum-known-outcome : tie.Need-enum-known-outcome
-enum-known-outcome c = search needs
-
--- src/judging.rt:65:17
-enum-told : tie.Need-enum-told
-enum-told c = search needs
-
--- src/judging.rt:66:13
-judge-model-requires : tie.Need-judge-model-requires
-judge-model-requires c κs = ?
-
--- src/judging.rt:56:1
-returns : tie.Need-returns
-returns c = ?
-
--- src/judging.rt:56:1
-same-length : tie.Need-same-length
-same-length c = search needs
-
--- src/judging.rt:56:1
-returns-2 : tie.Need-returns-2
-returns-2 c = search needs
 
 pub judge-spec : {M : Type 1} → statement M
+unfolding textOutcome modelOf
 judge-spec =
     tie.close
     (tie.spec
-    read-model-requires
-    enum-known-outcome
-    enum-told
-    judge-model-requires
-    returns
-    same-length
-    returns-2)
+    (λ c κs. search needs)
+    (λ c. search needs)
+    (λ c. search needs)
+    (λ c κs. record {
+      outcome = ap (λ r. r .outcome) (sym (c .before .before .before .before .read-model .ensures)) ∙ c .before .before .enum-told .given .1;
+      model = ap (λ r. r .model) (c .before .before .before .before .read-model .ensures);
+    })
+    (λ c. by-text _ _ _ (ap (λ r. r .outcome) (sym (c .before .before .before .read-model .ensures)) ∙ c .before .outcome .given .1))
+    (λ c. search needs)
+    (λ c. search needs))

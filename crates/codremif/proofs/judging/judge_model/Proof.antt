@@ -1,58 +1,28 @@
+-- `codremif::judging::judge_model` meets its contract: each way out is a case of `JudgeFacts`.
+-- Assumes nothing.
+use Prim.Native.Nat.{ℕ, _^_, _≤_, _<_}
+use mathlib.Core.Path.{_≡_, _∙_}
+use native.Mathlib.Omega.{arith}
 use borrow.Author.Needs.{needs}
+use lib.Pow.{pow-mono}
+use Rattle.codremif.proofs.JudgeFacts.{vars-le, rules-le, by-set, by-length, by-none, by-trace, trace-fits}
 use Rattle.codremif.proofs.judging.judge_model.Statement.{statement}
 use Rattle.codremif.proofs.judging.judge_model.Tie as tie
-use Rattle.codremif.proofs.judging.judge_model.Reads as reads
-use Rattle.codremif.proofs.judging.judge_model.Lts as lts
-use Rattle.codremif.proofs.judging.put_front.Reads as put-front-reads
-use Rattle.codremif.proofs.judging.set_count.Reads as set-count-reads
-use Rattle.systems.proofs.judging.trace_in.Reads as trace-in-reads
-
--- src/judging.rt:39:8
-set-count-requires : tie.Need-set-count-requires
-set-count-requires c κs = ?
-
--- src/judging.rt:40:9
-returns : tie.Need-returns
-returns c = ?
-
--- src/judging.rt:42:53
-cast-trace-in : tie.Need-cast-trace-in
-cast-trace-in c = ?
-
--- src/judging.rt:42:9
-trace-in-requires : tie.Need-trace-in-requires
-trace-in-requires c κs = ?
-
--- src/judging.rt:45:9
-returns-2 : tie.Need-returns-2
-returns-2 c = ?
-
--- src/judging.rt:48:9
-returns-3 : tie.Need-returns-3
-returns-3 c = ?
-
--- src/judging.rt:51:5
-put-front-requires : tie.Need-put-front-requires
-put-front-requires c κs = ?
-
--- src/judging.rt:34:1
-same-length : tie.Need-same-length
-same-length c = search needs
-
--- src/judging.rt:34:1
-returns-4 : tie.Need-returns-4
-returns-4 c = ?
 
 pub judge-model-spec : {M : Type 1} → statement M
 judge-model-spec =
     tie.close
     (tie.spec
-    set-count-requires
-    returns
-    cast-trace-in
-    trace-in-requires
-    returns-2
-    returns-3
-    put-front-requires
-    same-length
-    returns-4)
+    (λ c κs. rules-le (c .before .before .pre))
+    (λ c. by-set (c .before .before .before .before .pre) _ _ (omega (arith, c .before .set-count .ensures)))
+    (λ c. omega (arith, c .before .set-count .ensures, pow-mono (rules-le (c .before .before .before .before .pre))))
+    (λ c κs. ((vars-le (c .before .before .before .before .pre), rules-le (c .before .before .before .before .pre)), omega (arith, c .before .set-count .ensures)))
+    (λ c. by-length (c .before .before .before .before .before .before .pre) _ _ (omega (arith, c .before .before .before .set-count .ensures)) (c .before .trace-in .ensures) (c .if2 .taken))
+    (λ c. by-none (c .before .before .before .before .before .before .before .pre) _ _ (omega (arith, c .before .before .before .before .set-count .ensures)) (c .before .before .trace-in .ensures) (c .before .if2 .left) (c .if3 .taken))
+    (λ c κs.
+    let f = trace-fits (c .before .before .before .before .before .before .before .before .before .pre) _ (c .before .before .before .before .before .before .before .before .before .args .lent .now) (omega (arith, c .before .before .before .before .before .before .set-count .ensures)) (c .before .before .before .before .trace-in .ensures) in
+    (f .0, (f .1, c .before .before .before .if2 .left)))
+    (λ c. search needs)
+    (λ c.
+    let g = by-trace (c .before .before .before .before .before .before .before .before .before .before .before .before .pre) _ _ (omega (arith, c .before .before .before .before .before .before .before .before .before .set-count .ensures)) (c .before .before .before .before .before .before .before .trace-in .ensures) (c .before .before .before .before .before .before .if2 .left) (c .before .before .before .before .before .if3 .left) in
+    (g .0, c .before .before .put-front .ensures ∙ g .1)))

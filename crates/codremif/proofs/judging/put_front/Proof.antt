@@ -42,13 +42,12 @@ put-front-spec =
     (λ c. omega arith)
     (λ c.
     let a = c .before .before .args in
-    let i : ℕ = c .before .loop .i in
-    (
+    let i : ℕ = c .before .loop .i in (
       omega arith,
       ap (λ (l : List ℕ). set l i (getD (a .t1) i 0)) (c .before .loop .inv .1)
-      ∙ ap (λ (k : ℕ). set (paste (a .lent .now) 0 (a .t1) i) k (getD (a .t1) i 0)) (sym (zero-add i))
-      ∙ paste-suc (a .lent .now) 0 (a .t1) i 0 (omega arith) (omega arith)
-      ∙ ap (paste (a .lent .now) 0 (a .t1)) (sym (add-one i)),
+          ∙ ap (λ (k : ℕ). set (paste (a .lent .now) 0 (a .t1) i) k (getD (a .t1) i 0)) (sym (zero-add i))
+          ∙ paste-suc (a .lent .now) 0 (a .t1) i 0 (omega arith) (omega arith)
+          ∙ ap (paste (a .lent .now) 0 (a .t1)) (sym (add-one i)),
     ))
     (λ c.
     let a = c .before .before .args in
