@@ -1,5 +1,7 @@
 // The readings of edge texts: the number of the refusal and its line, 0 and 0 for a text that is accepted. What this program writes is
 // compared with the file `stdout` beside src/, which was written by hand from document 01.
+ghost use Prim.Native.Nat.{_≤_};
+use codremif::answers::JudgeAnswer;
 use libc::STDOUT_FILENO;
 use models::model::Outcome;
 
@@ -206,6 +208,148 @@ fn expression_forms() {
     );
 }
 
+// The verdict on a set, and eight lent bytes afterwards, of which the first `room` were lent; they held 7 before.
+fn show_judged(name: &[u8], text: &[u8], set: u32, room: usize)
+    requires { ⌜ room ≤ 8 ⌝ }
+{
+    let mut lent = [7u8; 8];
+    let answer = codremif::judging::judge(text, set, &mut lent[..room]);
+    io::write_all(STDOUT_FILENO, name);
+    match answer {
+        JudgeAnswer::Refused(number, line) => {
+            io::write_all(STDOUT_FILENO, b": refused=");
+            io::print_decimal(STDOUT_FILENO, number as u64);
+            io::write_all(STDOUT_FILENO, b" line=");
+            io::print_decimal(STDOUT_FILENO, line as u64);
+        }
+        JudgeAnswer::Holds => {
+            io::write_all(STDOUT_FILENO, b": holds");
+        }
+        JudgeAnswer::Broken(states) => {
+            io::write_all(STDOUT_FILENO, b": broken states=");
+            io::print_decimal(STDOUT_FILENO, states as u64);
+        }
+    }
+    show_bytes(lent);
+}
+
+fn show_byte(b: u8) {
+    io::write_all(STDOUT_FILENO, b" ");
+    io::print_decimal(STDOUT_FILENO, b as u64);
+}
+
+fn show_bytes(lent: [u8; 8]) {
+    io::write_all(STDOUT_FILENO, b" lent");
+    show_byte(lent[0]);
+    show_byte(lent[1]);
+    show_byte(lent[2]);
+    show_byte(lent[3]);
+    show_byte(lent[4]);
+    show_byte(lent[5]);
+    show_byte(lent[6]);
+    show_byte(lent[7]);
+    io::write_all(STDOUT_FILENO, b"\n");
+}
+
+fn tremor_sets() {
+    show_judged(
+        b"set 0",
+        b"vars=3\nrules=3\ninit=!c\nprop=>c&ab\nrule=ra:>CA\nrule=rb:>CB\nrule=vote:>C&AB\n",
+        0,
+        8,
+    );
+    show_judged(
+        b"set 1",
+        b"vars=3\nrules=3\ninit=!c\nprop=>c&ab\nrule=ra:>CA\nrule=rb:>CB\nrule=vote:>C&AB\n",
+        1,
+        8,
+    );
+    show_judged(
+        b"set 2",
+        b"vars=3\nrules=3\ninit=!c\nprop=>c&ab\nrule=ra:>CA\nrule=rb:>CB\nrule=vote:>C&AB\n",
+        2,
+        2,
+    );
+    show_judged(
+        b"set 3",
+        b"vars=3\nrules=3\ninit=!c\nprop=>c&ab\nrule=ra:>CA\nrule=rb:>CB\nrule=vote:>C&AB\n",
+        3,
+        0,
+    );
+    show_judged(
+        b"set 4",
+        b"vars=3\nrules=3\ninit=!c\nprop=>c&ab\nrule=ra:>CA\nrule=rb:>CB\nrule=vote:>C&AB\n",
+        4,
+        0,
+    );
+    show_judged(
+        b"set 7",
+        b"vars=3\nrules=3\ninit=!c\nprop=>c&ab\nrule=ra:>CA\nrule=rb:>CB\nrule=vote:>C&AB\n",
+        7,
+        8,
+    );
+}
+
+fn refused_sets() {
+    show_judged(
+        b"set 8",
+        b"vars=3\nrules=3\ninit=!c\nprop=>c&ab\nrule=ra:>CA\nrule=rb:>CB\nrule=vote:>C&AB\n",
+        8,
+        8,
+    );
+    show_judged(
+        b"set 65,536",
+        b"vars=3\nrules=3\ninit=!c\nprop=>c&ab\nrule=ra:>CA\nrule=rb:>CB\nrule=vote:>C&AB\n",
+        65536,
+        8,
+    );
+    show_judged(
+        b"set 2^31",
+        b"vars=3\nrules=3\ninit=!c\nprop=>c&ab\nrule=ra:>CA\nrule=rb:>CB\nrule=vote:>C&AB\n",
+        2147483648,
+        8,
+    );
+    show_judged(
+        b"one byte for two states",
+        b"vars=3\nrules=3\ninit=!c\nprop=>c&ab\nrule=ra:>CA\nrule=rb:>CB\nrule=vote:>C&AB\n",
+        0,
+        1,
+    );
+    show_judged(
+        b"no byte",
+        b"vars=3\nrules=3\ninit=!c\nprop=>c&ab\nrule=ra:>CA\nrule=rb:>CB\nrule=vote:>C&AB\n",
+        2,
+        0,
+    );
+}
+
+fn other_models() {
+    show_judged(
+        b"a start state is bad",
+        b"vars=1\nrules=1\ninit=1\nprop=a\nrule=r:1\n",
+        1,
+        1,
+    );
+    show_judged(
+        b"three states",
+        b"vars=2\nrules=2\ninit=&!a!b\nprop=!b\nrule=r:=Aa\nrule=s:>Ba\n",
+        2,
+        3,
+    );
+    show_judged(
+        b"no start state",
+        b"vars=1\nrules=1\ninit=0\nprop=0\nrule=r:1\n",
+        0,
+        0,
+    );
+    show_judged(
+        b"a refused text",
+        b"vars=1\nrules=1\ninit=A\nprop=1\nrule=r:1\n",
+        0,
+        8,
+    );
+}
+
 fn main() {
     whole_texts();
     vars_lines();
@@ -217,4 +361,7 @@ fn main() {
     expression_bytes();
     expression_letters();
     expression_forms();
+    tremor_sets();
+    refused_sets();
+    other_models();
 }
