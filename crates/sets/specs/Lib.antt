@@ -8,3 +8,4 @@ pub mod Listed
 pub mod Must
 pub mod Edges
 pub mod Duality
+pub mod Neighbours
