@@ -9,3 +9,4 @@ pub mod Must
 pub mod Edges
 pub mod Duality
 pub mod Neighbours
+pub mod Growth

@@ -1,11 +1,19 @@
 // A set of rules as a number: the first rule weighs 1, the next 2, and so on. No model has more than 16 rules.
 ghost use mathlib.Core.Path.{_≡_};
-ghost use Prim.Native.Nat.{_<_, _≤_};
+ghost use Prim.Native.Nat.{_^_, _<_, _≤_};
 ghost use lib.Count.{ones};
 ghost use Rattle.sets.specs.Bit.{has, full};
 ghost use Rattle.sets.specs.Sets.{part, without, with};
 
 pub struct RuleSet(pub u16);
+
+// How many sets of so many rules there are: each set's number is below it.
+pub fn set_count(rules: usize) -> usize
+    requires { ⌜ rules ≤ 16 ⌝ }
+    ensures { λ r. ⌜ r ≡ 2 ^ rules ⌝ }
+{
+    1 << rules
+}
 
 impl RuleSet {
     pub const EMPTY: RuleSet = RuleSet(0);
@@ -15,7 +23,7 @@ impl RuleSet {
         requires { ⌜ rules ≤ 16 ⌝ }
         ensures { λ r. ⌜ r .0 ≡ full rules ⌝ }
     {
-        RuleSet(((1usize << rules) - 1) as u16)
+        RuleSet((set_count(rules) - 1) as u16)
     }
 
     // How many rules the set has.

@@ -1,6 +1,5 @@
 -- `RuleSet::without` meets its contract: what a set has in common with another is no more than the set.
 -- Assumes nothing.
-use Prim.Native.Nat.{_-_}
 use native.Mathlib.Omega.{arith}
 use borrow.Author.Needs.{needs}
 use lib.Bits.{and-le-l}

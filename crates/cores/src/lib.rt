@@ -1,0 +1,2 @@
+// Core list and cut list of a table of verdicts.
+pub mod listing;
