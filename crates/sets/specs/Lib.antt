@@ -10,3 +10,4 @@ pub mod Edges
 pub mod Duality
 pub mod Neighbours
 pub mod Growth
+pub mod Steps
