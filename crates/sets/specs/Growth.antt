@@ -3,7 +3,7 @@
 use Prim.Native.Nat.{ℕ, zero, suc, _+_, _^_, _≤_, _<_}
 use mathlib.Core.Path.{_≡_, refl, sym, ap, ap₂, _∙_}
 use mathlib.Core.Logic.{⊎-elim}
-use mathlib.Core.Bool.{Bool, _&&_}
+use mathlib.Core.Bool.{Bool, true, _&&_}
 use mathlib.Core.List.{List, [], _++_}
 use native.Mathlib.Omega.{arith}
 use native.Mathlib.Nat.{eq-or-lt-of-le, le-of-suc-le-suc}
@@ -13,7 +13,10 @@ use borrow.Author.Tests.{lt-ltb, le-ltb, eq-eqb, ne-eqb}
 use lib.Dec.{ltb, eqb}
 use lib.ListN.{length, length-append}
 use lib.Count.{ones, ones-le}
-use Rattle.sets.specs.Lists.{joined, oneIf, select, sized, bySize, listOf}
+use Rattle.sets.specs.Choice.{alike}
+use Rattle.sets.specs.Sets.{part-le}
+use Rattle.sets.specs.Cores.{Core, isCore, least-agree, isCore-iff}
+use Rattle.sets.specs.Lists.{joined, oneIf, select, sized, bySize, listOf, coresOf}
 
 -- ---- a part is no longer than the whole
 
@@ -42,6 +45,21 @@ listOf-agree R p q h =
     (λ size _.
     joined-agree (λ S. oneIf (sized p size S) S) (λ S. oneIf (sized q size S) S) (2 ^ R)
     (λ S l. ap (λ b. oneIf (eqb (ones S) size && b) S) (h S l)))
+
+isCore-agree : (R : ℕ) (g h : ℕ → Bool) → ((S : ℕ) → S < 2 ^ R → g S ≡ h S) → (S : ℕ) → S < 2 ^ R → isCore g S ≡ isCore h S
+unfolding Core
+isCore-agree R g h e S l =
+    let same =
+    least-agree (λ T. g T ≡ true) (λ T. h T ≡ true) S
+    (λ T p. let t = e T (omega (arith, part-le p)) in (λ m. sym t ∙ m, λ m. t ∙ m))
+    in
+    alike (isCore g S) (isCore h S) (λ m. isCore-iff h S .1 (same .0 (isCore-iff g S .0 m)))
+    (λ m. isCore-iff g S .1 (same .1 (isCore-iff h S .0 m)))
+
+-- Judgements that agree on the sets of R rules have the same core list.
+pub coresOf-agree : (R : ℕ) (g h : ℕ → Bool) → ((S : ℕ) → S < 2 ^ R → g S ≡ h S) → coresOf R g ≡ coresOf R h
+unfolding coresOf
+coresOf-agree R g h e = listOf-agree R (isCore g) (isCore h) (isCore-agree R g h e)
 
 -- ---- the length of the list by size
 

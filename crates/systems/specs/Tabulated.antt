@@ -39,7 +39,7 @@ module _ {A : Type 0} where
       (omega arith)
 
   -- A list that has the entries.
-  tabulated : (n : ℕ) (f : ℕ → A) (d : A) (l : List A) → length l ≡ n → ((i : ℕ) → i < n → getD l i d ≡ f i) → l ≡ tabulate n f
+  pub tabulated : (n : ℕ) (f : ℕ → A) (d : A) (l : List A) → length l ≡ n → ((i : ℕ) → i < n → getD l i d ≡ f i) → l ≡ tabulate n f
   tabulated n f d l e h =
       ext-getD d l (tabulate n f) (e ∙ sym (length-tabulate n f))
       (λ i b. h i (omega arith) ∙ sym (getD-tabulate n f d i (omega arith)))
