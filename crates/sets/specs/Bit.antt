@@ -1,15 +1,15 @@
 -- A number as a set: rule i is in set S where place i of S is a one; in a state, letter i is true there.
 -- The laws say which rules the full set, what is left of it, one rule alone and a meet have; from the places' digits, by induction on the places.
-use Prim.Native.Nat.{ℕ, zero, suc, _+_, _-_, _/_, _%_, _^_, _≤_, _<_, min, zero-le}
+use Prim.Native.Nat.{ℕ, zero, suc, _+_, _-_, _/_, _%_, _^_, _≤_, _<_, min, max, zero-le}
 use mathlib.Core.Path.{_≡_, refl, sym, ap, _∙_}
-use mathlib.Core.Logic.{_↔_, _≢_}
+use mathlib.Core.Logic.{_↔_, _≢_, _⊎_, inl, inr, ⊎-elim}
 use mathlib.Core.Bool.{Bool, true}
 use native.Mathlib.Omega.{arith}
 use native.Mathlib.Nat.{pow-suc, lt-of-not-le}
 use native.Mathlib.Numerals.{one-add}
 use lib.Dec.{eqb}
 use lib.Arith.{bin-ind}
-use lib.Bits.{bitAnd, and-step}
+use lib.Bits.{bitAnd, bitOr, and-step, or-step, and-le-l}
 use lib.Pow.{pow-pos, shr-shr, ones-lt}
 use borrow.Author.Tests.{eqb-true, eq-eqb}
 
@@ -64,6 +64,20 @@ digit-and S T (suc i) =
     let half : bitAnd S T / 2 ≡ bitAnd (S / 2) (T / 2) = omega (arith, and-step S T) in
     rw half (digit-and (S / 2) (T / 2) i)
 
+digit-or : (S T i : ℕ) → digit (bitOr S T) i ≡ max (digit S i) (digit T i)
+unfolding digit
+digit-or S T zero = omega (arith, or-step S T)
+digit-or S T (suc i) =
+    let half : bitOr S T / 2 ≡ bitOr (S / 2) (T / 2) = omega (arith, or-step S T) in
+    rw half (digit-or (S / 2) (T / 2) i)
+
+digit-minus : (S T i : ℕ) → digit (S - bitAnd S T) i + min (digit S i) (digit T i) ≡ digit S i
+unfolding digit
+digit-minus S T zero = omega (arith, and-step S T, and-le-l (S / 2) (T / 2))
+digit-minus S T (suc i) =
+    let half : (S - bitAnd S T) / 2 ≡ S / 2 - bitAnd (S / 2) (T / 2) = omega (arith, and-step S T, and-le-l (S / 2) (T / 2)) in
+    rw half (digit-minus (S / 2) (T / 2) i)
+
 digit-above : (R S i : ℕ) → S < 2 ^ R → R ≤ i → digit S i ≡ 0
 unfolding digit
 digit-above zero S zero h l = omega arith
@@ -113,6 +127,27 @@ pub has-and : (S T i : ℕ) → (has (bitAnd S T) i ≡ true) ↔ ((has S i ≡ 
 has-and S T i =
     simp has-digit
     (λ e. omega (arith, digit-and S T i, digit-lt S i, digit-lt T i), λ e. omega (arith, digit-and S T i))
+
+-- Which rules are in one of two sets.
+pub has-or : (S T i : ℕ) → (has (bitOr S T) i ≡ true) ↔ ((has S i ≡ true) ⊎ (has T i ≡ true))
+has-or S T i = (
+  λ e. either (digit S i) refl (has-digit (bitOr S T) i .0 e),
+  ⊎-elim
+      (λ e. has-digit (bitOr S T) i .1 (omega (arith, digit-or S T i, digit-lt T i, has-digit S i .0 e)))
+      (λ e. has-digit (bitOr S T) i .1 (omega (arith, digit-or S T i, digit-lt S i, has-digit T i .0 e))),
+)
+  where
+    either : (d : ℕ) → digit S i ≡ d → digit (bitOr S T) i ≡ 1 → (has S i ≡ true) ⊎ (has T i ≡ true)
+    either zero e m = inr (has-digit T i .1 (omega (arith, digit-or S T i)))
+    either (suc d) e m = inl (has-digit S i .1 (omega (arith, digit-lt S i)))
+
+-- Which rules are in the first of two sets and not in the second.
+pub has-minus : (S T i : ℕ) → (has (S - bitAnd S T) i ≡ true) ↔ ((has S i ≡ true) × (¬ (has T i ≡ true)))
+has-minus S T i =
+    simp has-digit (
+      λ e. omega (arith, digit-minus S T i, digit-lt S i),
+      λ e. omega (arith, digit-minus S T i, digit-lt T i),
+    )
 
 -- A set whose rules are all in another has no greater number.
 pub has-le : (S T : ℕ) → ((i : ℕ) → has S i ≡ true → has T i ≡ true) → S ≤ T

@@ -1,8 +1,13 @@
--- A choice by a test: what is true of both branches, each under its own answer of the test, is true of the branch taken.
--- By the two cases of the test.
-use mathlib.Core.Path.{_≡_, refl}
+-- A choice by a test: what is true of both branches, each under its own answer of the test, is true of the branch taken; and tests that
+-- are true together are the same test. By the two cases of a test.
+use mathlib.Core.Path.{_≡_, refl, sym}
 use mathlib.Core.Bool.{Bool, true, false, cond}
 
 pub by-test : {A : Type 0} (P : A → Type 0) (t : Bool) {x y : A} → (t ≡ true → P x) → (t ≡ false → P y) → P (cond t x y)
 by-test P true f g = f refl
 by-test P false f g = g refl
+
+pub alike : (a b : Bool) → (a ≡ true → b ≡ true) → (b ≡ true → a ≡ true) → a ≡ b
+alike true b f g = sym (f refl)
+alike false true f g = g refl
+alike false false f g = refl

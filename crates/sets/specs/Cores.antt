@@ -57,7 +57,7 @@ pub false-if : (b : Bool) → ¬ (b ≡ true) → b ≡ false
 false-if true n = absurd (n refl)
 false-if false n = refl
 
-noneBelow-iff : (q : ℕ → Bool) (n : ℕ) → (noneBelow q n ≡ true) ↔ ((T : ℕ) → T < n → ¬ (q T ≡ true))
+pub noneBelow-iff : (q : ℕ → Bool) (n : ℕ) → (noneBelow q n ≡ true) ↔ ((T : ℕ) → T < n → ¬ (q T ≡ true))
 unfolding noneBelow
 noneBelow-iff q zero = (λ e T l. absurd (omega arith), λ f. refl)
 noneBelow-iff q (suc n) = (

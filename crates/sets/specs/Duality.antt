@@ -88,7 +88,7 @@ module _ (R : ℕ) (h : ℕ → Bool) (mono : Monotone R h) where
 
 -- ---- the dual judgement
 
-breaks-monotone : (R : ℕ) (h : ℕ → Bool) → Monotone R h → Monotone R (breaks R h)
+pub breaks-monotone : (R : ℕ) (h : ℕ → Bool) → Monotone R h → Monotone R (breaks R h)
 breaks-monotone R h mono =
     record {
       more = λ S T l p e.

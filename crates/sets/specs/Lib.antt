@@ -8,3 +8,6 @@ pub mod Listed
 pub mod Must
 pub mod Edges
 pub mod Duality
+pub mod Neighbours
+pub mod Growth
+pub mod Steps

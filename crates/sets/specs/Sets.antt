@@ -2,14 +2,15 @@
 -- The laws tie the part and the shared rule to what code computes, and say what the order needs; from the rules that Bit says a number has.
 use Prim.Native.Nat.{ℕ, _-_, _^_, _≤_, _<_}
 use mathlib.Core.Path.{_≡_, refl}
-use mathlib.Core.Logic.{_↔_, _≢_}
+use mathlib.Core.Logic.{_↔_, _≢_, _⊎_, inl, inr, ⊎-elim}
 use mathlib.Core.Bool.{Bool, true}
 use native.Mathlib.Omega.{arith}
 use lib.Dec.{eqb}
-use lib.Bits.{bitAnd}
+use native.Mathlib.Decide.{ℕ-discrete}
+use lib.Bits.{bitAnd, bitOr, and-le-r}
 use lib.Count.{ones}
 use borrow.Author.Tests.{eqb-true, eq-eqb}
-use Rattle.sets.specs.Bit.{has, full, has-and, has-le, has-some, has-below, has-zero, has-full, has-rest, has-one}
+use Rattle.sets.specs.Bit.{has, full, has-and, has-or, has-minus, has-le, has-some, has-below, has-zero, has-full, has-rest, has-one}
 
 infix 50 _⊑_
 -- S is a part of T: every rule of S is a rule of T.
@@ -35,6 +36,13 @@ pub data Before (S T : ℕ) : Type 0 where
 -- The test for a part: what S and T have in common is S.
 unfoldable pub part : ℕ → ℕ → Bool
 part S T = eqb (bitAnd S T) S
+
+-- S without rule i, and S with rule i, whether it is in S or not.
+unfoldable pub without : ℕ → ℕ → ℕ
+without S i = S - bitAnd S (2 ^ i)
+
+unfoldable pub with : ℕ → ℕ → ℕ
+with S i = bitOr S (2 ^ i)
 
 -- ---- parts
 
@@ -79,6 +87,61 @@ part-rest R S T h p =
           let r = has-rest R T i h .0 e in
           has-rest R S i (omega (arith, part-le p)) .1 (r .0, λ m. r .1 (p .every i m));
     }
+
+-- ---- one rule less, one rule more
+
+pub has-without : (S i j : ℕ) → (has (without S i) j ≡ true) ↔ ((has S j ≡ true) × (j ≢ i))
+unfolding without
+has-without S i j = (
+  λ e. let r = has-minus S (2 ^ i) j .0 e in (r .0, λ same. r .1 (has-one i j .1 same)),
+  λ p. has-minus S (2 ^ i) j .1 (p .0, λ e. p .1 (has-one i j .0 e)),
+)
+
+pub has-with : (S i j : ℕ) → (has (with S i) j ≡ true) ↔ ((has S j ≡ true) ⊎ (j ≡ i))
+unfolding with
+has-with S i j = (
+  λ e. ⊎-elim inl (λ one. inr (has-one i j .0 one)) (has-or S (2 ^ i) j .0 e),
+  λ p. has-or S (2 ^ i) j .1 (⊎-elim inl (λ same. inr (has-one i j .1 same)) p),
+)
+
+pub without-part : (S i : ℕ) → without S i ⊑ S
+without-part S i = record { every = λ j e. has-without S i j .0 e .0 }
+
+-- A proper part lacks a rule of the whole, so it is a part of the whole without that rule.
+pub proper-without : {S T : ℕ} → ProperPart T S → (i : ℕ) × (has S i ≡ true) × (T ⊑ without S i)
+proper-without {S} {T} p =
+    let r = has-some (S - bitAnd S T) (omega (arith, and-le-r S T, proper-lt p)) in
+    let only = has-minus S T (r .0) .0 (r .1) in (
+      r .0,
+      only .0,
+      record {
+        every = λ j e. has-without S (r .0) j .1 (p .within .every j e, λ same. only .1 (rw same at e));
+      },
+    )
+
+-- A set without one of its rules is a proper part of it.
+pub without-proper : (S i : ℕ) → has S i ≡ true → ProperPart (without S i) S
+without-proper S i e =
+    record { within = without-part S i; other = λ same. has-without S i i .0 (rw same e) .1 refl }
+
+-- The less is taken away, the more is left: what is left without a set less one of its rules has that rule more.
+pub rest-without : (R S i : ℕ) → S < 2 ^ R → has S i ≡ true → full R - without S i ≡ with (full R - S) i
+rest-without R S i h e =
+    let below : without S i < 2 ^ R = omega (arith, part-le (without-part S i)) in
+    part-antisym
+    (record {
+      every = λ j m. let r = has-rest R (without S i) j below .0 m in has-with (full R - S) i j .1 (left j r (ℕ-discrete j i));
+    })
+    (record {
+      every = λ j m.
+          has-rest R (without S i) j below .1
+          (⊎-elim (λ m. let r = has-rest R S j h .0 m in (r .0, λ w. r .1 (has-without S i j .0 w .0)))
+          (λ same. (rw same (has-below R S i h e), λ w. has-without S i j .0 w .1 same)) (has-with (full R - S) i j .0 m));
+    })
+  where
+    left : (j : ℕ) → (j < R) × (¬ (has (without S i) j ≡ true)) → Dec (j ≡ i) → (has (full R - S) j ≡ true) ⊎ (j ≡ i)
+    left j r (yes same) = inr same
+    left j r (no other) = inl (has-rest R S j h .1 (r .0, λ m. r .1 (has-without S i j .1 (m, other))))
 
 -- ---- a shared rule
 

@@ -1,1 +1,2 @@
 // A rule set as a number.
+pub mod ruleset;

@@ -5,30 +5,22 @@ use mathlib.Core.Path.{_≡_, refl, sym, ap, _∙_}
 use mathlib.Core.Logic.{_≢_}
 use mathlib.Core.Bool.{Bool, true, false, not, _&&_, Bool·beq, and-false}
 use native.Mathlib.Omega.{arith}
-use borrow.Author.Tests.{lt-ltb, le-ltb, ltb-true}
+use borrow.Author.Tests.{le-ltb, ltb-true}
 use borrow.Rule.Slice.PartMut.{putMid}
 use lib.Dec.{ltb}
 use lib.ListN.{set, replicate}
-use Rattle.systems.specs.Tabulated.{tabulate, same-entries, all-alike, one-stored, part-stored}
-use Rattle.systems.specs.Tables.{marksOf, entryOf, pairsOf, entry-at, alike}
-
--- Only i is below i + 1 and not below i.
-below-next : (j i : ℕ) → j ≢ i → ltb j i ≡ ltb j (i + 1)
-below-next j i n =
-    alike (ltb j i) (ltb j (i + 1)) (λ e. lt-ltb j (i + 1) (omega (arith, ltb-true j i e)))
-    (λ e. lt-ltb j i (omega (arith, ltb-true j (i + 1) e)))
+use Rattle.systems.specs.Tabulated.{tabulate, same-entries, all-alike, part-stored, below-next, none-marked, next-marked}
+use Rattle.systems.specs.Tables.{marksOf, entryOf, pairsOf, entry-at}
 
 -- ---- the marks
 
 pub no-marks : (p : ℕ → Bool) → replicate 128 false ≡ marksOf 0 p
 unfolding marksOf
-no-marks p = all-alike 128 false (λ s. ltb s 0 && p s) (λ s _. rw (le-ltb s 0 zero-le))
+no-marks = none-marked 128
 
 pub one-mark : (p : ℕ → Bool) (s : ℕ) → s < 128 → set (marksOf s p) s (p s) ≡ marksOf (s + 1) p
 unfolding marksOf
-one-mark p s h =
-    ap (set (marksOf s p) s) (rw (lt-ltb s (s + 1) (omega arith)))
-    ∙ one-stored 128 (λ i. ltb i s && p i) (λ i. ltb i (s + 1) && p i) s h (λ i n. ap (λ b. b && p i) (below-next i s n))
+one-mark = next-marked 128
 
 -- ---- the table of pairs
 

@@ -16,6 +16,7 @@ use lib.ListN.{length, getD, drop}
 use lib.Arith.{digits-lt}
 use lib.Bits.{bitAnd}
 use lib.Pow.{high, low, field, mod-mod-pow, pow-mono}
+use Rattle.sets.specs.Choice.{alike}
 use Rattle.sets.specs.Bit.{has, has-below}
 use Rattle.sets.specs.Sets.{part, part-iff}
 use Rattle.exprs.specs.declared.value.Valued.{Valued}
@@ -27,12 +28,6 @@ use Rattle.models.specs.declared.model.Model.{Model}
 use Rattle.systems.specs.Count.{one}
 use Rattle.systems.specs.Meaning.{meets, valueRead, ruleMet, stepOf, step-iff}
 use Rattle.systems.specs.Tabulated.{tabulate, length-tabulate, getD-tabulate}
-
--- Two tests of which each passes where the other does.
-pub alike : (a b : Bool) → (a ≡ true → b ≡ true) → (b ≡ true → a ≡ true) → a ≡ b
-alike true b f g = sym (f refl)
-alike false true f g = g refl
-alike false false f g = refl
 
 -- ---- the tables
 

@@ -1,16 +1,21 @@
 -- A list given entry by entry, as an array is that a loop fills. The laws read an entry, and say which list it is after a repeated value,
--- and after a store at one place, at the next place from the front, or to a part that is lent. From the laws of lists. Assumes nothing.
-use Prim.Native.Nat.{ℕ, zero, suc, _+_, _-_, _<_, _≤_}
+-- and after a store at one place, at the next place from the front, or to a part that is lent; the last ones are for marks by a test.
+-- From the laws of lists. Assumes nothing.
+use Prim.Native.Nat.{ℕ, zero, suc, _+_, _-_, _<_, _≤_, zero-le}
 use mathlib.Core.Path.{_≡_, refl, sym, ap, ap₂, _∙_}
 use mathlib.Core.Logic.{_≢_}
+use mathlib.Core.Bool.{Bool, false, _&&_}
 use mathlib.Core.List.{List, [], _∷_, _++_, append-assoc, append-nil}
 use native.Mathlib.Omega.{arith}
 use native.Mathlib.Decide.{ℕ-discrete}
 use native.Mathlib.Nat.{add-suc, add-zero}
 use native.Mathlib.Numerals.{add-one}
 use borrow.Author.Count.{below-more}
+use borrow.Author.Tests.{lt-ltb, le-ltb, ltb-true}
+use lib.Dec.{ltb}
 use lib.ListN.{length, getD, take, drop, set, replicate, length-append, length-set, length-replicate, getD-replicate, List·getD-append}
 use lib.Seq.{getD-at, getD-set-same, getD-set-other, set-at, take-at, drop-at, drop-cons, ext-getD}
+use Rattle.sets.specs.Choice.{alike}
 
 -- The list f 0, f 1 and so on, up to the one before f n.
 unfoldable pub tabulate : {A : Type 0} → ℕ → (ℕ → A) → List A
@@ -34,7 +39,7 @@ module _ {A : Type 0} where
       (omega arith)
 
   -- A list that has the entries.
-  tabulated : (n : ℕ) (f : ℕ → A) (d : A) (l : List A) → length l ≡ n → ((i : ℕ) → i < n → getD l i d ≡ f i) → l ≡ tabulate n f
+  pub tabulated : (n : ℕ) (f : ℕ → A) (d : A) (l : List A) → length l ≡ n → ((i : ℕ) → i < n → getD l i d ≡ f i) → l ≡ tabulate n f
   tabulated n f d l e h =
       ext-getD d l (tabulate n f) (e ∙ sym (length-tabulate n f))
       (λ i b. h i (omega arith) ∙ sym (getD-tabulate n f d i (omega arith)))
@@ -93,3 +98,20 @@ module _ {A : Type 0} where
       ∙ same-entries (n - (a + b)) (λ i. f (a + (b + i))) (λ i. g (a + (b + i))) (λ i _. top (a + (b + i)) (omega arith))
       in
       rw (front, back) (sym (in-three a b n g h))
+
+-- ---- marks at the places below i that pass a test, as a loop sets them that has passed i places
+
+-- Only i is below i + 1 and not below i.
+pub below-next : (j i : ℕ) → j ≢ i → ltb j i ≡ ltb j (i + 1)
+below-next j i n =
+    alike (ltb j i) (ltb j (i + 1)) (λ e. lt-ltb j (i + 1) (omega (arith, ltb-true j i e)))
+    (λ e. lt-ltb j i (omega (arith, ltb-true j (i + 1) e)))
+
+pub none-marked : (size : ℕ) (p : ℕ → Bool) → replicate size false ≡ tabulate size (λ j. ltb j 0 && p j)
+none-marked size p = all-alike size false (λ j. ltb j 0 && p j) (λ j _. rw (le-ltb j 0 zero-le))
+
+pub next-marked : (size : ℕ) (p : ℕ → Bool) (i : ℕ) → i < size
+    → set (tabulate size (λ j. ltb j i && p j)) i (p i) ≡ tabulate size (λ j. ltb j (i + 1) && p j)
+next-marked size p i h =
+    ap (set (tabulate size (λ j. ltb j i && p j)) i) (rw (lt-ltb i (i + 1) (omega arith)))
+    ∙ one-stored size (λ j. ltb j i && p j) (λ j. ltb j (i + 1) && p j) i h (λ j n. ap (λ b. b && p j) (below-next j i n))

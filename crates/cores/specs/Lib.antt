@@ -1,0 +1,4 @@
+-- The root of this crate's definitions and laws: tables of sets, what is known of each set, and how a list of sets is written.
+pub mod Tables
+pub mod Known
+pub mod Written

@@ -1,0 +1,4 @@
+// Core list and cut list of a table of verdicts.
+pub mod listing;
+pub mod marks;
+pub mod verdicts;
