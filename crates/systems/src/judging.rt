@@ -2,7 +2,9 @@
 ghost use mathlib.Core.Path.{_≡_};
 ghost use Prim.Native.Nat.{_^_, _≤_, _<_};
 ghost use Rattle.systems.specs.Meaning.{systemOf};
+ghost use Rattle.systems.specs.Tabled.{tabled};
 ghost use Rattle.systems.specs.Traced.{traceIn};
+ghost use Rattle.systems.specs.Verdict.{holds};
 use crate::trace::Trace;
 use models::model::Model;
 
@@ -17,4 +19,19 @@ pub fn trace_in(text: &[u8], m: Model, set: u16) -> Trace
     let bads = crate::tables::bad_marks(text, m);
     let states = crate::tables::state_count(m.vars);
     crate::trace::trace_of(&masks, starts, bads, states, set)
+}
+
+// Whether a set holds by the tables of a model.
+pub fn is_held(
+    masks: &[u16; 16384],
+    starts: [bool; 128],
+    bads: [bool; 128],
+    states: usize,
+    set: u16,
+) -> bool
+    requires { ⌜ states ≤ 128 ⌝ }
+    ensures { λ r. ⌜ r ≡ holds (tabled (now (masks .entry)) starts bads states set) ⌝ }
+{
+    let trace = crate::trace::trace_of(masks, starts, bads, states, set);
+    trace.length == 0
 }
