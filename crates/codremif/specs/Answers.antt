@@ -122,6 +122,15 @@ unfoldable pub setOf : Outcome → ℕ → MustAnswer
 setOf Accepted S = Set S
 setOf (Refused number line) S = MustRefused number line
 
+-- What is answered and written of a list of sets for an accepted text: 11 where the lent bytes are too few.
+unfoldable pub listAnswer : List ℕ → List ℕ → ListAnswer
+unfolding countOf lengthOutcome bytesOf
+listAnswer sets lent = countOf (lengthOutcome (bytesOf sets) lent) sets
+
+unfoldable pub listBytes : List ℕ → List ℕ → List ℕ
+unfolding after lengthOutcome bytesOf
+listBytes sets lent = after (lengthOutcome (bytesOf sets) lent) (bytesOf sets) lent
+
 -- Judge a set, with lent bytes for the trace, one per state.
 unfoldable pub judgeAnswer : List ℕ → ℕ → List ℕ → JudgeAnswer
 unfolding verdictOn judgeOutcome systemIn

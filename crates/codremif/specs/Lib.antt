@@ -5,4 +5,5 @@ pub mod AnswerLaws
 pub mod Packing
 pub mod Host
 pub mod Demand2
+pub mod Demand3
 pub mod Examples

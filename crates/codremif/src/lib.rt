@@ -2,4 +2,5 @@
 pub mod answers;
 pub mod host;
 pub mod judging;
+pub mod listing;
 mod packing;

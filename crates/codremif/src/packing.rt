@@ -1,7 +1,9 @@
 // An answer as the one 64-bit number that a C host gets.
 ghost use mathlib.Core.Path.{_≡_};
-ghost use Rattle.codremif.specs.Packing.{Parts, InRange, judgeParts, packed};
+ghost use Rattle.codremif.specs.Packing.{Parts, InRange, judgeParts, listParts, mustParts, packed};
 use crate::answers::JudgeAnswer;
+use crate::answers::ListAnswer;
+use crate::answers::MustAnswer;
 
 // The number, plus 256 times the line, plus 65,536 times the amount, plus 2^40 for a verdict that holds.
 fn pack(number: u8, line: usize, amount: usize, holds: bool) -> u64
@@ -20,5 +22,25 @@ pub(crate) fn pack_judge(a: JudgeAnswer) -> u64
         JudgeAnswer::Refused(number, line) => pack(number, line, 0, false),
         JudgeAnswer::Holds => pack(0, 0, 0, true),
         JudgeAnswer::Broken(states) => pack(0, 0, states, false),
+    }
+}
+
+pub(crate) fn pack_list(a: ListAnswer) -> u64
+    requires { ⌜ InRange (listParts a) ⌝ }
+    ensures { λ r. ⌜ r ≡ packed (listParts a) ⌝ }
+{
+    match a {
+        ListAnswer::Refused(number, line) => pack(number, line, 0, false),
+        ListAnswer::Count(sets) => pack(0, 0, sets, false),
+    }
+}
+
+pub(crate) fn pack_must(a: MustAnswer) -> u64
+    requires { ⌜ InRange (mustParts a) ⌝ }
+    ensures { λ r. ⌜ r ≡ packed (mustParts a) ⌝ }
+{
+    match a {
+        MustAnswer::Refused(number, line) => pack(number, line, 0, false),
+        MustAnswer::Set(set) => pack(0, 0, set as usize, false),
     }
 }
