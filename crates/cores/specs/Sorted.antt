@@ -1,6 +1,6 @@
 -- A list of sets sorted as the lists are: fewer rules first, sets with as many rules in the order that they had.
 -- The law: the marked sets by number, sorted so, are the list. From what one more number adds to each.
-use Prim.Native.Nat.{ℕ, zero, suc, _^_, _<_}
+use Prim.Native.Nat.{ℕ, zero, suc, _^_}
 use mathlib.Core.Path.{_≡_, refl, sym, ap, ap₂, _∙_}
 use mathlib.Core.Bool.{Bool, true, false, _&&_, and-true, and-false}
 use mathlib.Core.List.{List, [], _∷_, _++_, append-nil}

@@ -2,7 +2,6 @@
 -- Assumes nothing.
 use Prim.Native.Nat.{_-_}
 use native.Mathlib.Omega.{arith}
-use borrow.Author.Needs.{needs}
 use lib.ListN.{length}
 use Rattle.cores.specs.Sorted.{atPlace, ofSize}
 use Rattle.cores.proofs.Writing.{Writing, started, same-length, place-le, room, sum-le, next, ended}
