@@ -1,4 +1,5 @@
 -- What the proofs of several functions use.
-mod Writing
+mod Counting
 mod Filling
 mod Marking
+mod Writing

@@ -1,7 +1,7 @@
 -- A loop that marks sets one by one: the table before the first mark, after one more, and under a test that says the same.
 -- From the laws of lists given entry by entry. Assumes nothing.
 use Prim.Native.Nat.{ℕ, _<_}
-use mathlib.Core.Path.{_≡_, sym, ap, _∙_}
+use mathlib.Core.Path.{_≡_, ap, _∙_}
 use mathlib.Core.Logic.{_≢_}
 use mathlib.Core.Bool.{Bool, true, false, cond}
 use mathlib.Core.List.{List}

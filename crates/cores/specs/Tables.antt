@@ -2,13 +2,13 @@
 -- The laws: of the table of a monotone judgement's verdicts these give the core list and the cut list. From lists given entry by entry, and
 -- from cores being known by the sets with one rule less.
 use Prim.Native.Nat.{ℕ, _-_, _^_, _≤_, _<_}
-use mathlib.Core.Path.{_≡_, refl, sym, ap, _∙_}
-use mathlib.Core.Bool.{Bool, true, false, not, _&&_}
+use mathlib.Core.Path.{_≡_, sym, ap, _∙_}
+use mathlib.Core.Bool.{Bool, false, not, _&&_}
 use mathlib.Core.List.{List}
 use native.Mathlib.Omega.{arith}
 use borrow.Author.Tests.{lt-ltb}
 use lib.Dec.{ltb}
-use lib.ListN.{length, getD}
+use lib.ListN.{getD}
 use lib.Pow.{pow-pos, pow-mono}
 use Rattle.sets.specs.Bit.{full}
 use Rattle.sets.specs.Sets.{part-le}
@@ -17,7 +17,7 @@ use Rattle.sets.specs.Lists.{listOf, coresOf, cutsOf}
 use Rattle.sets.specs.Duality.{breaks-monotone}
 use Rattle.sets.specs.Growth.{listOf-agree, coresOf-agree}
 use Rattle.sets.specs.Neighbours.{oneMinimal, oneMinimal-core}
-use Rattle.systems.specs.Tabulated.{tabulate, length-tabulate, getD-tabulate}
+use Rattle.systems.specs.Tabulated.{tabulate, getD-tabulate}
 
 -- The mark of set S.
 abbrev pub marked : List Bool → ℕ → Bool

@@ -33,7 +33,7 @@ joined-le g m (suc n) h =
 
 -- ---- tests that agree
 
-joined-agree : (f g : ℕ → List ℕ) (n : ℕ) → ((k : ℕ) → k < n → f k ≡ g k) → joined f n ≡ joined g n
+pub joined-agree : (f g : ℕ → List ℕ) (n : ℕ) → ((k : ℕ) → k < n → f k ≡ g k) → joined f n ≡ joined g n
 unfolding joined
 joined-agree f g zero h = refl
 joined-agree f g (suc n) h = ap₂ _++_ (joined-agree f g n (λ k l. h k (omega arith))) (h n (omega arith))

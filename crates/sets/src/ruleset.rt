@@ -3,7 +3,7 @@ ghost use mathlib.Core.Path.{_≡_};
 ghost use Prim.Native.Nat.{_^_, _<_, _≤_};
 ghost use lib.Count.{ones};
 ghost use Rattle.sets.specs.Bit.{has, full};
-ghost use Rattle.sets.specs.Sets.{part, without, with};
+ghost use Rattle.sets.specs.Sets.{without, with};
 
 pub struct RuleSet(pub u16);
 

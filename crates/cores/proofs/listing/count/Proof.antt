@@ -2,15 +2,16 @@
 -- long as the list by number. Assumes nothing.
 use Prim.Native.Nat.{ℕ, _+_, _-_, _^_, _<_, _≤_}
 use mathlib.Core.Path.{_≡_, refl, sym, ap, _∙_}
-use mathlib.Core.Bool.{Bool, true, false}
+use mathlib.Core.Bool.{Bool}
 use native.Mathlib.Omega.{arith}
 use borrow.Author.Needs.{needs}
 use mir.Val.{boolByte}
-use lib.ListN.{length, length-append}
+use lib.ListN.{length}
 use lib.Pow.{pow-mono}
-use Rattle.sets.specs.Lists.{oneIf, select, select-more}
+use Rattle.sets.specs.Lists.{select}
 use Rattle.sets.specs.Growth.{length-listOf}
 use Rattle.cores.specs.Tables.{marked}
+use Rattle.cores.proofs.Counting.{byte-le, one-counted}
 use Rattle.cores.proofs.listing.count.Statement.{statement}
 use Rattle.cores.proofs.listing.count.Tie as tie
 
@@ -19,21 +20,13 @@ record Counted (q : ℕ → Bool) (end n s : ℕ) : Type 0 where
   few : n ≤ s
   marks : n ≡ length (select q s)
 
-byte-one : (b : Bool) (s : ℕ) → length (oneIf b s) ≡ boolByte b
-unfolding oneIf
-byte-one true s = refl
-byte-one false s = refl
-
-byte-le : (b : Bool) → boolByte b ≤ 1
-byte-le true = omega arith
-byte-le false = omega arith
-
 one-more : (q : ℕ → Bool) (end n s : ℕ) → Counted q end n s → s < end → Counted q end (n + boolByte (q s)) (s + 1)
-one-more q end n s h l = record {
-  within = omega arith;
-  few = omega (arith, h .few, byte-le (q s));
-  marks = omega (arith, h .marks, ap length (select-more q s), length-append (select q s) (oneIf (q s) s), byte-one (q s) s);
-}
+one-more q end n s h l =
+    record {
+      within = omega arith;
+      few = omega (arith, h .few, byte-le (q s));
+      marks = ap (λ (m : ℕ). m + boolByte (q s)) (h .marks) ∙ sym (one-counted q s);
+    }
 
 abbrev Inv-loop : tie.InvT-loop
 Inv-loop members rules end n₀ s₀ n s = Counted (marked members) end n s

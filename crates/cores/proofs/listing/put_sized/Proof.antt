@@ -1,8 +1,8 @@
--- `cores::listing::put_sized` meets its contract: a marked set that has so many rules is the one set written, any other leaves the bytes.
+-- `cores::listing::put_sized` meets its contract: a set that has so many rules is the one set written, any other leaves the bytes.
 -- Assumes nothing.
 use Prim.Native.Nat.{ℕ, _*_, _/_, _%_, _≤_}
 use mathlib.Core.Path.{_≡_, refl, sym, _∙_}
-use mathlib.Core.Bool.{Bool, true, false, _&&_, and-false}
+use mathlib.Core.Bool.{Bool, true, false}
 use mathlib.Core.List.{List, [], _∷_}
 use native.Mathlib.Omega.{arith}
 use borrow.Author.Needs.{needs}
@@ -34,12 +34,12 @@ none-written : (test : Bool) (S : ℕ) (lent : List ℕ) → test ≡ false → 
 unfolding oneIf
 none-written test S lent e = rw e (nothing-written lent)
 
--- where both tests were true
-test-true : (c : tie.Then2) → (eqb (ones (c .before .before .before .before .args .set .0)) (c .before .before .before .before .args .size) && c .before .before .before .before .args .wanted) ≡ true
-test-true c = rw (eq-eqb _ _ (sym (c .before .size .ensures) ∙ c .if2 .taken), c .before .before .if1 .taken)
+-- where the set has so many rules
+same-size : (c : tie.Then1) → eqb (ones (c .before .before .before .args .set .0)) (c .before .before .before .args .size) ≡ true
+same-size c = eq-eqb _ _ (sym (c .before .size .ensures) ∙ c .if1 .taken)
 
-room : (c : tie.Then2) → 2 ≤ length (c .before .before .before .before .args .lent .now)
-room c = one-set _ _ (test-true c) (c .before .before .before .before .pre)
+room : (c : tie.Then1) → 2 ≤ length (c .before .before .before .args .lent .now)
+room c = one-set _ _ (same-size c) (c .before .before .before .pre)
 
 pub put-sized-spec : {M : Type 1} → statement M
 put-sized-spec =
@@ -51,6 +51,5 @@ put-sized-spec =
     (λ c. search needs)
     (λ c. simp length-set (omega (arith, room (c .before .before))))
     (λ c. search needs)
-    (λ c. one-written _ _ _ (test-true (c .before .before)) (room (c .before .before)))
-    (λ c. none-written _ _ _ (rw (ne-eqb _ _ (λ same. c .if2 .left (c .before .size .ensures ∙ same)))))
-    (λ c. none-written _ _ _ (simp (c .if1 .left, and-false))))
+    (λ c. one-written _ _ _ (same-size (c .before .before)) (room (c .before .before)))
+    (λ c. none-written _ _ _ (ne-eqb _ _ (λ same. c .if1 .left (c .before .size .ensures ∙ same)))))

@@ -1,43 +1,34 @@
--- `cores::listing::write` meets its contract. The loop's invariant: the sets that have fewer than `size` rules are written.
+-- `cores::listing::write` meets its contract: what is gathered is the marked sets by number, and sorted these are the list.
 -- Assumes nothing.
-use Prim.Native.Nat.{ℕ, suc, _-_, _^_}
+use Prim.Native.Nat.{ℕ, _^_}
+use mathlib.Core.Path.{_≡_, sym, ap, _∙_}
 use mathlib.Core.Bool.{Bool}
 use mathlib.Core.List.{List}
-use native.Mathlib.Omega.{arith}
-use Rattle.sets.specs.Lists.{select, sized, bySize, listOf}
-use Rattle.cores.specs.Tables.{marked}
-use Rattle.cores.proofs.Writing.{Writing, started, same-length, place-le, room, sum-le, next, ended}
+use borrow.Author.Needs.{needs}
+use lib.ListN.{take}
+use lib.Seq.{length-take-le}
+use Rattle.sets.specs.Lists.{select, listOf, bytesOf, overwritten}
+use Rattle.cores.specs.Sorted.{sorted, sorted-list}
+use Rattle.cores.specs.Written.{Gathered}
 use Rattle.cores.proofs.listing.write.Statement.{statement}
 use Rattle.cores.proofs.listing.write.Tie as tie
 
-abbrev of-size : List Bool → ℕ → ℕ → List ℕ
-of-size members rules size = select (sized (marked members) size) (2 ^ rules)
-
-abbrev Inv-loop : tie.InvT-loop
-Inv-loop members rules lent₀ at₀ size₀ lent at size = Writing (of-size members rules) (suc rules) lent₀ lent at size
-
-abbrev μ-loop : tie.MeasureT-loop
-μ-loop members rules lent₀ at₀ size₀ lent at size = suc rules - size
+the-list : (R : ℕ) (q : ℕ → Bool) {found : List ℕ} {n : ℕ} → Gathered (select q (2 ^ R)) found n → sorted R (take n found) ≡ listOf R q
+the-list R q g = ap (sorted R) (g .sets) ∙ sorted-list R q
 
 pub write-spec : {M : Type 1} → statement M
-unfolding listOf bySize
 write-spec =
     tie.close
     (tie.spec
-    Inv-loop
-    μ-loop
-    (λ c. started _ _ _ (c .before .pre .1))
-    (λ c. omega (arith, place-le _ _ _ _ _ _ (c .before .loop .inv)))
-    (λ c. omega (arith, place-le _ _ _ _ _ _ (c .before .loop .inv)))
-    (λ c. omega arith)
-    (λ c κs. (c .before .before .before .before .pre .0, room _ _ _ _ _ _ (c .before .before .loop .inv) (omega arith)))
+    (λ c κs. search needs)
+    (λ c. c .gather .ensures .within)
+    (λ c. sym (length-take-le _ _ (c .before .gather .ensures .within)))
+    (λ c κs.
+    let s = c .before .before .before .before .before in
+    (s .pre .0, rw (the-list _ _ (c .before .before .gather .ensures)) (s .pre .1)))
+    (λ c. search needs)
     (λ c.
-    let l = c .before .before .before .before in
-    omega (arith, sum-le _ _ _ _ _ _ (l .before .loop .inv) (omega (arith, l .loop-test .taken)) _ _ (c .before .before .write-sized .ensures)))
-    (λ c. omega (arith, c .before .before .before .before .before .before .before .pre .0))
-    (λ c. omega (arith, c .before .before .before .before .loop-test .taken))
-    (λ c.
-    let l = c .before .before .before .before in
-    next _ _ _ _ _ _ (l .before .loop .inv) (omega (arith, l .loop-test .taken)) _ _ (c .before .before .write-sized .ensures))
-    (λ c. same-length _ _ _ _ _ _ (c .before .loop .inv))
-    (λ c. ended _ _ _ _ _ _ (c .before .loop .inv) (omega (arith, c .loop-test .left)) .bytes))
+    let g = c .before .before .before .before .before in
+    let s = g .before .before .before in
+    c .before .before .write-sorted .ensures
+    ∙ ap (λ (l : List ℕ). overwritten (bytesOf l) (s .args .lent .now)) (the-list _ _ (g .gather .ensures))))
