@@ -74,6 +74,14 @@ pub record Demand3 (text coreLent cutLent : List ℕ) (coreAnswer : ListAnswer) 
   pub fullBroken : judgeIn text (full (rulesIn text)) ≡ false → FullBroken (rulesIn text) (judgeIn text)
   pub emptyHolds : judgeIn text 0 ≡ true → EmptyHolds (rulesIn text) (judgeIn text)
 
+-- What the three calls give, accepted or refused, is what their definitions say.
+pub record AsCalled (text coreLent cutLent : List ℕ) (coreAnswer : ListAnswer) (coreBytes : List ℕ) (cutAnswer : ListAnswer) (cutBytes : List ℕ) (must : MustAnswer) : Type 0 where
+  pub cores : coreAnswer ≡ coresAnswer text coreLent
+  pub coresWritten : coreBytes ≡ coresBytes text coreLent
+  pub cuts : cutAnswer ≡ cutsAnswer text cutLent
+  pub cutsWritten : cutBytes ≡ cutsBytes text cutLent
+  pub mustRules : must ≡ mustAnswer text
+
 -- ---- its proof
 
 cores-list : (text : List ℕ) → Lists (coresIn text) (IsCore text)
@@ -144,3 +152,9 @@ module _ (text : List ℕ) (model : textOutcome text ≡ Accepted) where
         fullBroken = full-broken (rulesIn text) (judgeIn text) mono;
         emptyHolds = empty-holds (rulesIn text) (judgeIn text) mono;
       }
+
+  -- So it is true of what was given as called.
+  pub as-called : {coreLent cutLent : List ℕ} {coreAnswer : ListAnswer} {coreBytes : List ℕ} {cutAnswer : ListAnswer} {cutBytes : List ℕ} {must : MustAnswer}
+      → AsCalled text coreLent cutLent coreAnswer coreBytes cutAnswer cutBytes must
+      → Demand3 text coreLent cutLent coreAnswer coreBytes cutAnswer cutBytes must
+  as-called {coreLent} {cutLent} c = rw (c .cores, c .coresWritten, c .cuts, c .cutsWritten, c .mustRules) (demand3 coreLent cutLent)
