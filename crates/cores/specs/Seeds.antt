@@ -1,6 +1,7 @@
 -- The judgement of rule sets by the tables of a model, and what a seed's shrinking, growing and settling say.
--- The laws: a rule less or more while the verdict stays. From the laws of parts and of what is known.
-use Prim.Native.Nat.{ℕ, _^_, _≤_, _<_}
+-- The laws: one rule less or more keeps a verdict that is judged again, and a mark settles the seed. From the laws of parts and of marks.
+-- Assumes nothing.
+use Prim.Native.Nat.{ℕ, _^_, _<_}
 use mathlib.Core.Path.{_≡_}
 use mathlib.Core.Logic.{_⊎_, inl, inr}
 use mathlib.Core.Bool.{Bool, true, false}

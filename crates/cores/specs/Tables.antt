@@ -8,7 +8,7 @@ use mathlib.Core.List.{List}
 use native.Mathlib.Omega.{arith}
 use borrow.Author.Tests.{lt-ltb, ltb-true}
 use lib.Dec.{ltb}
-use lib.ListN.{length, getD}
+use lib.ListN.{getD}
 use lib.Pow.{pow-pos, pow-mono}
 use Rattle.sets.specs.Bit.{full}
 use Rattle.sets.specs.Sets.{part-le}

@@ -1,7 +1,7 @@
 -- `cores::seeds::shrink` meets its contract. The loop's invariant: what is left holds and is a part of the set.
 -- Assumes nothing.
-use Prim.Native.Nat.{ℕ, _-_}
-use mathlib.Core.Path.{_≡_, sym, _∙_}
+use Prim.Native.Nat.{_-_}
+use mathlib.Core.Path.{sym, _∙_}
 use mathlib.Core.Logic.{⊎-elim}
 use native.Mathlib.Omega.{arith}
 use Rattle.cores.specs.Seeds.{judgedBy, Shrunk, unshrunk, shrunk-less}
