@@ -1,7 +1,7 @@
 // The calls for a C host: numbers and byte slices only. A slice is a pointer and a length to the host.
 ghost use mathlib.Core.Path.{_≡_};
-ghost use Rattle.codremif.specs.Answers.{judgeAnswer, judgeBytes};
-ghost use Rattle.codremif.specs.Packing.{judgeParts, packed};
+ghost use Rattle.codremif.specs.Answers.{judgeAnswer, judgeBytes, coresAnswer, coresBytes, cutsAnswer, cutsBytes, mustAnswer};
+ghost use Rattle.codremif.specs.Packing.{judgeParts, listParts, mustParts, packed};
 
 #[no_mangle]
 pub extern "C" fn codremif_judge(text: &[u8], set: u32, trace: &mut [u8]) -> u64
@@ -9,4 +9,27 @@ pub extern "C" fn codremif_judge(text: &[u8], set: u32, trace: &mut [u8]) -> u64
     ensures { λ _. ⌜ now (trace .exit) ≡ judgeBytes (now (text .entry)) set (now (trace .entry)) ⌝ }
 {
     crate::packing::pack_judge(crate::judging::judge(text, set, trace))
+}
+
+#[no_mangle]
+pub extern "C" fn codremif_cores(text: &[u8], sets: &mut [u8]) -> u64
+    ensures { λ r. ⌜ r ≡ packed (listParts (coresAnswer (now (text .entry)) (now (sets .entry)))) ⌝ }
+    ensures { λ _. ⌜ now (sets .exit) ≡ coresBytes (now (text .entry)) (now (sets .entry)) ⌝ }
+{
+    crate::packing::pack_list(crate::listing::list_cores(text, sets))
+}
+
+#[no_mangle]
+pub extern "C" fn codremif_cuts(text: &[u8], sets: &mut [u8]) -> u64
+    ensures { λ r. ⌜ r ≡ packed (listParts (cutsAnswer (now (text .entry)) (now (sets .entry)))) ⌝ }
+    ensures { λ _. ⌜ now (sets .exit) ≡ cutsBytes (now (text .entry)) (now (sets .entry)) ⌝ }
+{
+    crate::packing::pack_list(crate::listing::list_cuts(text, sets))
+}
+
+#[no_mangle]
+pub extern "C" fn codremif_must(text: &[u8]) -> u64
+    ensures { λ r. ⌜ r ≡ packed (mustParts (mustAnswer (now (text .entry)))) ⌝ }
+{
+    crate::packing::pack_must(crate::must::give_must(text))
 }

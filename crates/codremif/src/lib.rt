@@ -3,4 +3,6 @@ pub mod answers;
 pub mod host;
 pub mod judging;
 pub mod listing;
+pub mod must;
 mod packing;
+pub mod together;

@@ -16,7 +16,7 @@ use Rattle.sets.specs.Sets.{_⊑_, part, part-iff, part-le}
 use Rattle.sets.specs.Cores.{Monotone}
 use Rattle.sets.specs.Neighbours.{holds-above, broken-below}
 use Rattle.systems.specs.Tabulated.{tabulate, length-tabulate, getD-tabulate}
-use Rattle.cores.specs.Tables.{tableOf, Verdicts, table-verdicts}
+use Rattle.cores.specs.Tables.{tableOf, table-agree}
 
 -- The mark of a verdict.
 abbrev pub mark : Bool → ℕ
@@ -134,12 +134,8 @@ is-held false = refl
 
 -- Where every set is settled, the sets known to hold are those that hold.
 pub all-settled : (R : ℕ) (h : ℕ → Bool) (known : List ℕ) → Known R h known → ((S : ℕ) → S < 2 ^ R → Settled known S)
-    → Verdicts R h (heldOf R known)
+    → heldOf R known ≡ tableOf (2 ^ R) h
 unfolding heldOf
 all-settled R h known k all =
-    record {
-      few = k .few;
-      each = λ S l.
-          table-verdicts R (λ S. eqb (getD known S 0) 2) (k .few) .each S l
-          ∙ ap (λ (m : ℕ). eqb m 2) (k .right S l (all S l)) ∙ is-held (h S);
-    }
+    table-agree (2 ^ R) (λ S. eqb (getD known S 0) 2) h
+    (λ S l. ap (λ (m : ℕ). eqb m 2) (k .right S l (all S l)) ∙ is-held (h S))

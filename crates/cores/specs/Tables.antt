@@ -6,7 +6,7 @@ use mathlib.Core.Path.{_≡_, sym, ap, _∙_}
 use mathlib.Core.Bool.{Bool, false, not, _&&_}
 use mathlib.Core.List.{List}
 use native.Mathlib.Omega.{arith}
-use borrow.Author.Tests.{lt-ltb}
+use borrow.Author.Tests.{lt-ltb, ltb-true}
 use lib.Dec.{ltb}
 use lib.ListN.{getD}
 use lib.Pow.{pow-pos, pow-mono}
@@ -17,7 +17,7 @@ use Rattle.sets.specs.Lists.{listOf, coresOf, cutsOf}
 use Rattle.sets.specs.Duality.{breaks-monotone}
 use Rattle.sets.specs.Growth.{listOf-agree, coresOf-agree}
 use Rattle.sets.specs.Neighbours.{oneMinimal, oneMinimal-core}
-use Rattle.systems.specs.Tabulated.{tabulate, getD-tabulate}
+use Rattle.systems.specs.Tabulated.{tabulate, getD-tabulate, same-entries}
 
 -- The mark of set S.
 abbrev pub marked : List Bool → ℕ → Bool
@@ -47,6 +47,15 @@ pub record Verdicts (R : ℕ) (h : ℕ → Bool) (table : List Bool) : Type 0 wh
 pub marked-in : (n : ℕ) (p : ℕ → Bool) (S : ℕ) → n ≤ 65536 → S < n → marked (tableOf n p) S ≡ p S
 unfolding tableOf
 marked-in n p S h l = getD-tabulate 65536 (λ S. ltb S n && p S) false S (omega arith) ∙ rw (lt-ltb S n l)
+
+-- Tests that agree below n have the same table.
+pub table-agree : (n : ℕ) (p q : ℕ → Bool) → ((S : ℕ) → S < n → p S ≡ q S) → tableOf n p ≡ tableOf n q
+unfolding tableOf
+table-agree n p q h = same-entries 65536 (λ S. ltb S n && p S) (λ S. ltb S n && q S) (λ S _. at S (ltb S n) refl)
+  where
+    at : (S : ℕ) (b : Bool) → ltb S n ≡ b → (b && p S) ≡ (b && q S)
+    at S true e = h S (ltb-true S n e)
+    at S false e = refl
 
 -- The table of a test below 2 ^ R is the table of its verdicts.
 pub table-verdicts : (R : ℕ) (p : ℕ → Bool) → R ≤ 16 → Verdicts R p (tableOf (2 ^ R) p)

@@ -8,6 +8,7 @@ pub mod Listed
 pub mod Must
 pub mod Edges
 pub mod Duality
+pub mod MustRules
 pub mod Neighbours
 pub mod Growth
 pub mod Steps
