@@ -2,7 +2,7 @@
 -- The laws: of the table of a monotone judgement's verdicts these give the core list and the cut list. From lists given entry by entry, and
 -- from cores being known by the sets with one rule less.
 use Prim.Native.Nat.{ℕ, _-_, _^_, _≤_, _<_}
-use mathlib.Core.Path.{_≡_, sym, ap, _∙_}
+use mathlib.Core.Path.{_≡_, refl, sym, ap, _∙_}
 use mathlib.Core.Bool.{Bool, true, false, not, _&&_}
 use mathlib.Core.List.{List}
 use native.Mathlib.Omega.{arith}
