@@ -1,27 +1,19 @@
+-- `codremif::host::codremif_cores` meets its contract: the answer is packed, and its parts fit their places for every text.
+-- Assumes nothing.
+use mathlib.Core.Path.{_≡_, ap, _∙_}
 use borrow.Author.Needs.{needs}
+use Rattle.codremif.specs.Host.{cores-reads}
+use Rattle.codremif.specs.Packing.{listParts, packed}
 use Rattle.codremif.proofs.host.codremif_cores.Statement.{statement}
 use Rattle.codremif.proofs.host.codremif_cores.Tie as tie
-use Rattle.codremif.proofs.host.codremif_cores.Reads as reads
-use Rattle.codremif.proofs.host.codremif_cores.Lts as lts
-use Rattle.codremif.proofs.listing.list_cores.Reads as list-cores-reads
-use Rattle.codremif.proofs.packing.pack_list.Reads as pack-list-reads
-
--- src/host.rt:19:31
-list-cores-requires : tie.Need-list-cores-requires
-list-cores-requires c κs = search needs
-
--- src/host.rt:19:5
-pack-list-requires : tie.Need-pack-list-requires
-pack-list-requires c κs = ?
-
--- src/host.rt:14:1
-same-length : tie.Need-same-length
-same-length c = search needs
-
--- src/host.rt:14:1
-returns : tie.Need-returns
-returns c = ?
 
 pub codremif-cores-spec : {M : Type 1} → statement M
 codremif-cores-spec =
-    tie.close (tie.spec list-cores-requires pack-list-requires same-length returns)
+    tie.close
+    (tie.spec
+    (λ c κs. search needs)
+    (λ c κs.
+    let a = c .before .before .before .before .before .before .args in
+    rw (c .before .before .list-cores .ensures .0) (cores-reads (a .text .now) (a .sets .now) .range))
+    (λ c. search needs)
+    (λ c. (c .pack-list .ensures ∙ ap (λ a. packed (listParts a)) (c .before .before .before .list-cores .ensures .0), c .before .before .before .list-cores .ensures .1)))

@@ -1,26 +1,19 @@
+-- `codremif::host::codremif_cuts` meets its contract: the answer is packed, and its parts fit their places for every text.
+-- Assumes nothing.
+use mathlib.Core.Path.{_≡_, ap, _∙_}
 use borrow.Author.Needs.{needs}
+use Rattle.codremif.specs.Host.{cuts-reads}
+use Rattle.codremif.specs.Packing.{listParts, packed}
 use Rattle.codremif.proofs.host.codremif_cuts.Statement.{statement}
 use Rattle.codremif.proofs.host.codremif_cuts.Tie as tie
-use Rattle.codremif.proofs.host.codremif_cuts.Reads as reads
-use Rattle.codremif.proofs.host.codremif_cuts.Lts as lts
-use Rattle.codremif.proofs.listing.list_cuts.Reads as list-cuts-reads
-use Rattle.codremif.proofs.packing.pack_list.Reads as pack-list-reads
-
--- src/host.rt:27:31
-list-cuts-requires : tie.Need-list-cuts-requires
-list-cuts-requires c κs = search needs
-
--- src/host.rt:27:5
-pack-list-requires : tie.Need-pack-list-requires
-pack-list-requires c κs = ?
-
--- src/host.rt:22:1
-same-length : tie.Need-same-length
-same-length c = search needs
-
--- src/host.rt:22:1
-returns : tie.Need-returns
-returns c = ?
 
 pub codremif-cuts-spec : {M : Type 1} → statement M
-codremif-cuts-spec = tie.close (tie.spec list-cuts-requires pack-list-requires same-length returns)
+codremif-cuts-spec =
+    tie.close
+    (tie.spec
+    (λ c κs. search needs)
+    (λ c κs.
+    let a = c .before .before .before .before .before .before .args in
+    rw (c .before .before .list-cuts .ensures .0) (cuts-reads (a .text .now) (a .sets .now) .range))
+    (λ c. search needs)
+    (λ c. (c .pack-list .ensures ∙ ap (λ a. packed (listParts a)) (c .before .before .before .list-cuts .ensures .0), c .before .before .before .list-cuts .ensures .1)))

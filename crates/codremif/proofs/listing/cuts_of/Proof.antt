@@ -1,44 +1,29 @@
+-- `codremif::listing::cuts_of` meets its contract: the least sets of the dual table of verdicts are the cuts.
+-- Assumes nothing.
+use mathlib.Core.Path.{_≡_, ap, _∙_}
+use mathlib.Core.Bool.{Bool}
+use mathlib.Core.List.{List}
 use borrow.Author.Needs.{needs}
+use Rattle.sets.specs.Lists.{listOf}
+use Rattle.cores.specs.Tables.{marked, leastOf}
+use Rattle.codremif.proofs.JudgeFacts.{rules-le}
+use Rattle.codremif.proofs.ListFacts.{cuts-listed, cuts-given}
 use Rattle.codremif.proofs.listing.cuts_of.Statement.{statement}
 use Rattle.codremif.proofs.listing.cuts_of.Tie as tie
-use Rattle.codremif.proofs.listing.cuts_of.Reads as reads
-use Rattle.codremif.proofs.listing.cuts_of.Lts as lts
-use Rattle.codremif.proofs.listing.give_list.Reads as give-list-reads
-use Rattle.codremif.proofs.listing.verdicts.Reads as verdicts-reads
-use Rattle.cores.proofs.verdicts.dual.Reads as dual-reads
-use Rattle.cores.proofs.verdicts.least.Reads as least-reads
-
--- src/listing.rt:55:17
-verdicts-requires : tie.Need-verdicts-requires
-verdicts-requires c κs = search needs
-
--- src/listing.rt:56:18
-dual-requires : tie.Need-dual-requires
-dual-requires c κs = search needs
-
--- src/listing.rt:57:19
-least-requires : tie.Need-least-requires
-least-requires c κs = search needs
-
--- src/listing.rt:58:5
-give-list-requires : tie.Need-give-list-requires
-give-list-requires c κs = search needs
-
--- src/listing.rt:50:1
-same-length : tie.Need-same-length
-same-length c = search needs
-
--- src/listing.rt:50:1
-returns : tie.Need-returns
-returns c = ?
 
 pub cuts-of-spec : {M : Type 1} → statement M
 cuts-of-spec =
     tie.close
     (tie.spec
-    verdicts-requires
-    dual-requires
-    least-requires
-    give-list-requires
-    same-length
-    returns)
+    (λ c κs. search needs)
+    (λ c κs. rules-le (c .before .before .before .before .pre))
+    (λ c κs. rules-le (c .before .before .before .before .before .before .pre))
+    (λ c κs. rules-le (c .before .before .before .before .before .before .before .before .before .pre))
+    (λ c. search needs)
+    (λ c.
+    let a = c .before .before .before .before .before .before .before .before .before .before .before .before in
+    let listed =
+    ap (λ (t : List Bool). listOf (a .args .m .rules) (marked t)) (c .before .before .before .before .before .least .ensures ∙ ap (leastOf (a .args .m .rules)) (c .before .before .before .before .before .before .before .dual .ensures))
+    ∙ cuts-listed (a .pre) _ (c .before .before .before .before .before .before .before .before .before .verdicts .ensures) in
+    let g = cuts-given (a .pre) _ (a .args .lent .now) listed in
+    (c .before .before .give-list .ensures .0 ∙ g .0, c .before .before .give-list .ensures .1 ∙ g .1)))

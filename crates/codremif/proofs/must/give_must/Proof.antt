@@ -1,36 +1,28 @@
+-- `codremif::must::give_must` meets its contract: a refused text is answered by its number and line, and an accepted one as it is read.
+-- Assumes nothing.
+use mathlib.Core.Path.{_≡_, sym, ap, _∙_}
 use borrow.Author.Needs.{needs}
+use Rattle.codremif.specs.Answers.{IsRead, textOutcome, modelOf}
+use Rattle.codremif.proofs.ListFacts.{must-given, must-refused}
 use Rattle.codremif.proofs.must.give_must.Statement.{statement}
 use Rattle.codremif.proofs.must.give_must.Tie as tie
-use Rattle.codremif.proofs.must.give_must.Reads as reads
-use Rattle.codremif.proofs.must.give_must.Lts as lts
-use Rattle.codremif.proofs.must.must_in.Reads as must-in-reads
-use Rattle.models.proofs.model.read_model.Reads as read-model-reads
-
--- src/must.rt:23:9
-read-model-requires : tie.Need-read-model-requires
-read-model-requires c κs = search needs
-
--- src/must.rt:26:26
-enum-known-outcome : tie.Need-enum-known-outcome
-enum-known-outcome c = search needs
-
--- src/must.rt:28:17
-enum-told : tie.Need-enum-told
-enum-told c = search needs
-
--- src/must.rt:29:29
-must-in-requires : tie.Need-must-in-requires
-must-in-requires c κs = ?
-
--- src/must.rt:20:1
-returns : tie.Need-returns
-returns c = ?
-
--- src/must.rt:20:1
-returns-2 : tie.Need-returns-2
-returns-2 c = ?
 
 pub give-must-spec : {M : Type 1} → statement M
+unfolding textOutcome modelOf
 give-must-spec =
     tie.close
-    (tie.spec read-model-requires enum-known-outcome enum-told must-in-requires returns returns-2)
+    (tie.spec
+    (λ c κs. search needs)
+    (λ c. search needs)
+    (λ c. search needs)
+    (λ c κs. record {
+      outcome = ap (λ r. r .outcome) (sym (c .before .before .before .read-model .ensures)) ∙ c .before .enum-told .given .1;
+      model = ap (λ r. r .model) (c .before .before .before .read-model .ensures);
+    })
+    (λ c. must-refused _ (ap (λ r. r .outcome) (sym (c .before .before .before .read-model .ensures)) ∙ c .before .outcome .given .1))
+    (λ c.
+    let r : IsRead (c .before .before .before .before .before .before .args .text .now) (c .before .before .before .before .read-model .result .model) = record {
+      outcome = ap (λ r. r .outcome) (sym (c .before .before .before .before .read-model .ensures)) ∙ c .before .before .enum-told .given .1;
+      model = ap (λ r. r .model) (c .before .before .before .before .read-model .ensures);
+    } in
+    must-given r _ (c .must-in .ensures)))

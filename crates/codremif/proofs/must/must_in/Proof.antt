@@ -1,44 +1,27 @@
+-- `codremif::must::must_in` meets its contract: the judgement by the tables of the model is the judgement of the model.
+-- Assumes nothing.
+use mathlib.Core.Path.{ap, _∙_}
+use native.Mathlib.Omega.{arith}
+use Rattle.sets.specs.Lists.{mustOf}
+use Rattle.systems.specs.TablesTell.{states-le}
+use Rattle.codremif.proofs.JudgeFacts.{vars-le, rules-le}
+use Rattle.codremif.proofs.ListFacts.{judged-alike, tables-monotone, must-is}
 use Rattle.codremif.proofs.must.must_in.Statement.{statement}
 use Rattle.codremif.proofs.must.must_in.Tie as tie
-use Rattle.codremif.proofs.must.must_in.Reads as reads
-use Rattle.codremif.proofs.must.must_in.Lts as lts
-use Rattle.cores.proofs.seeds.must_of.Reads as must-of-reads
-use Rattle.systems.proofs.tables.bad_marks.Reads as bad-marks-reads
-use Rattle.systems.proofs.tables.pair_masks.Reads as pair-masks-reads
-use Rattle.systems.proofs.tables.start_marks.Reads as start-marks-reads
-use Rattle.systems.proofs.tables.state_count.Reads as state-count-reads
-
--- src/must.rt:12:17
-pair-masks-requires : tie.Need-pair-masks-requires
-pair-masks-requires c κs = ?
-
--- src/must.rt:13:9
-start-marks-requires : tie.Need-start-marks-requires
-start-marks-requires c κs = ?
-
--- src/must.rt:14:9
-bad-marks-requires : tie.Need-bad-marks-requires
-bad-marks-requires c κs = ?
-
--- src/must.rt:15:9
-state-count-requires : tie.Need-state-count-requires
-state-count-requires c κs = ?
-
--- src/must.rt:16:5
-must-of-requires : tie.Need-must-of-requires
-must-of-requires c κs = ?
-
--- src/must.rt:8:1
-returns : tie.Need-returns
-returns c = ?
 
 pub must-in-spec : {M : Type 1} → statement M
 must-in-spec =
     tie.close
     (tie.spec
-    pair-masks-requires
-    start-marks-requires
-    bad-marks-requires
-    state-count-requires
-    must-of-requires
-    returns)
+    (λ c κs. (vars-le (c .before .pre), rules-le (c .before .pre)))
+    (λ c κs. vars-le (c .before .before .pre))
+    (λ c κs. vars-le (c .before .before .before .pre))
+    (λ c κs. vars-le (c .before .before .before .before .pre))
+    (λ c κs.
+    let r = c .before .before .before .before .before .before .pre in (
+      omega (arith, c .before .state-count .ensures, states-le (c .before .before .before .before .before .before .args .m .vars) (vars-le r)),
+      (rules-le r, rw (judged-alike (c .before .before .before .before .pair-masks .ensures) (c .before .before .before .start-marks .ensures) (c .before .before .bad-marks .ensures) (c .before .state-count .ensures)) (tables-monotone r)),
+    ))
+    (λ c.
+    let a = c .before .before .before .before .before .before .before in
+    c .must-of .ensures ∙ ap (mustOf (a .args .m .rules)) (judged-alike (c .before .before .before .before .before .pair-masks .ensures) (c .before .before .before .before .start-marks .ensures) (c .before .before .before .bad-marks .ensures) (c .before .before .state-count .ensures)) ∙ must-is (a .pre)))

@@ -1,43 +1,26 @@
+-- `codremif::together::ask_all` meets its contract: each call gives what it promises, and for an accepted text that is demand 3.
+-- Assumes nothing.
+use Rattle.codremif.specs.Demand3.{AsCalled, as-called}
 use borrow.Author.Needs.{needs}
 use Rattle.codremif.proofs.together.ask_all.Statement.{statement}
 use Rattle.codremif.proofs.together.ask_all.Tie as tie
-use Rattle.codremif.proofs.together.ask_all.Reads as reads
-use Rattle.codremif.proofs.together.ask_all.Lts as lts
-use Rattle.codremif.proofs.listing.list_cores.Reads as list-cores-reads
-use Rattle.codremif.proofs.listing.list_cuts.Reads as list-cuts-reads
-use Rattle.codremif.proofs.must.give_must.Reads as give-must-reads
-
--- src/together.rt:20:9
-list-cores-requires : tie.Need-list-cores-requires
-list-cores-requires c κs = search needs
-
--- src/together.rt:21:9
-list-cuts-requires : tie.Need-list-cuts-requires
-list-cuts-requires c κs = search needs
-
--- src/together.rt:22:9
-give-must-requires : tie.Need-give-must-requires
-give-must-requires c κs = search needs
-
--- src/together.rt:16:1
-same-length : tie.Need-same-length
-same-length c = search needs
-
--- src/together.rt:16:1
-same-length-2 : tie.Need-same-length-2
-same-length-2 c = search needs
-
--- src/together.rt:16:1
-returns : tie.Need-returns
-returns c = ?
 
 pub ask-all-spec : {M : Type 1} → statement M
 ask-all-spec =
     tie.close
     (tie.spec
-    list-cores-requires
-    list-cuts-requires
-    give-must-requires
-    same-length
-    same-length-2
-    returns)
+    (λ c κs. search needs)
+    (λ c κs. search needs)
+    (λ c κs. search needs)
+    (λ c. search needs)
+    (λ c. search needs)
+    (λ c.
+    let a = c .before .before .before .before .before .before .before .before .before .before .before .before .args in
+    let called : AsCalled (a .text .now) (a .cores .now) (a .cuts .now) (c .before .before .before .before .before .before .before .list-cores .result) (c .before .before .before .before .before .before .before .list-cores .last .1 .0) (c .before .before .before .list-cuts .result) (c .before .before .before .list-cuts .last .1 .0) (c .give-must .result) = record {
+      cores = c .before .before .before .before .before .before .before .list-cores .ensures .0;
+      coresWritten = c .before .before .before .before .before .before .before .list-cores .ensures .1;
+      cuts = c .before .before .before .list-cuts .ensures .0;
+      cutsWritten = c .before .before .before .list-cuts .ensures .1;
+      mustRules = c .give-must .ensures;
+    } in
+    (called, λ accepted. as-called (a .text .now) accepted called)))
