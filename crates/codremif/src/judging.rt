@@ -1,20 +1,12 @@
 // Judging a set of rules: the verdict, and the trace of a broken set in the lent bytes.
 ghost use mathlib.Core.Path.{_≡_};
-ghost use Prim.Native.Nat.{_^_, _≤_};
+ghost use Prim.Native.Nat.{_≤_};
 ghost use lib.ListN.{length, take};
 ghost use Rattle.sets.specs.Lists.{overwritten};
 ghost use Rattle.codremif.specs.Answers.{IsRead, judgeAnswer, judgeBytes};
 use crate::answers::JudgeAnswer;
 use models::model::Model;
 use models::model::Outcome;
-
-// How many sets of so many rules there are.
-fn set_count(rules: usize) -> u32
-    requires { ⌜ rules ≤ 16 ⌝ }
-    ensures { λ r. ⌜ r ≡ 2 ^ rules ⌝ }
-{
-    1 << rules
-}
 
 // The first n states go to the front of the lent bytes; what is past them keeps its content.
 fn put_front(states: [u8; 128], n: usize, lent: &mut [u8])
@@ -36,7 +28,7 @@ fn judge_model(text: &[u8], m: Model, set: u32, lent: &mut [u8]) -> JudgeAnswer
     ensures { λ r. ⌜ r ≡ judgeAnswer (now (text .entry)) set (now (lent .entry)) ⌝ }
     ensures { λ _. ⌜ now (lent .exit) ≡ judgeBytes (now (text .entry)) set (now (lent .entry)) ⌝ }
 {
-    if set_count(m.rules) <= set {
+    if sets::ruleset::set_count(m.rules) <= set as usize {
         return JudgeAnswer::Refused(10, 0);
     }
     let trace = systems::judging::trace_in(text, m, set as u16);

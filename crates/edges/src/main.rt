@@ -2,6 +2,8 @@
 // compared with the file `stdout` beside src/, which was written by hand from document 01.
 ghost use Prim.Native.Nat.{_≤_};
 use codremif::answers::JudgeAnswer;
+use codremif::answers::ListAnswer;
+use codremif::answers::MustAnswer;
 use libc::STDOUT_FILENO;
 use models::model::Outcome;
 
@@ -251,6 +253,58 @@ fn show_bytes(lent: [u8; 8]) {
     io::write_all(STDOUT_FILENO, b"\n");
 }
 
+// The count of a list, and eight lent bytes afterwards, of which the first `room` were lent; they held 7 before.
+fn show_count(name: &[u8], answer: ListAnswer, lent: [u8; 8]) {
+    io::write_all(STDOUT_FILENO, name);
+    match answer {
+        ListAnswer::Refused(number, line) => {
+            io::write_all(STDOUT_FILENO, b": refused=");
+            io::print_decimal(STDOUT_FILENO, number as u64);
+            io::write_all(STDOUT_FILENO, b" line=");
+            io::print_decimal(STDOUT_FILENO, line as u64);
+        }
+        ListAnswer::Count(sets) => {
+            io::write_all(STDOUT_FILENO, b": sets=");
+            io::print_decimal(STDOUT_FILENO, sets as u64);
+        }
+    }
+    show_bytes(lent);
+}
+
+fn show_cores(name: &[u8], text: &[u8], room: usize)
+    requires { ⌜ room ≤ 8 ⌝ }
+{
+    let mut lent = [7u8; 8];
+    let answer = codremif::listing::list_cores(text, &mut lent[..room]);
+    show_count(name, answer, lent);
+}
+
+fn show_cuts(name: &[u8], text: &[u8], room: usize)
+    requires { ⌜ room ≤ 8 ⌝ }
+{
+    let mut lent = [7u8; 8];
+    let answer = codremif::listing::list_cuts(text, &mut lent[..room]);
+    show_count(name, answer, lent);
+}
+
+fn show_must(name: &[u8], text: &[u8]) {
+    let answer = codremif::must::give_must(text);
+    io::write_all(STDOUT_FILENO, name);
+    match answer {
+        MustAnswer::Refused(number, line) => {
+            io::write_all(STDOUT_FILENO, b": refused=");
+            io::print_decimal(STDOUT_FILENO, number as u64);
+            io::write_all(STDOUT_FILENO, b" line=");
+            io::print_decimal(STDOUT_FILENO, line as u64);
+        }
+        MustAnswer::Set(set) => {
+            io::write_all(STDOUT_FILENO, b": must=");
+            io::print_decimal(STDOUT_FILENO, set as u64);
+        }
+    }
+    io::write_all(STDOUT_FILENO, b"\n");
+}
+
 fn tremor_sets() {
     show_judged(
         b"set 0",
@@ -350,6 +404,73 @@ fn other_models() {
     );
 }
 
+fn core_lists() {
+    show_cores(
+        b"Tremor cores",
+        b"vars=3\nrules=3\ninit=!c\nprop=>c&ab\nrule=ra:>CA\nrule=rb:>CB\nrule=vote:>C&AB\n",
+        8,
+    );
+    show_cores(
+        b"four bytes",
+        b"vars=3\nrules=3\ninit=!c\nprop=>c&ab\nrule=ra:>CA\nrule=rb:>CB\nrule=vote:>C&AB\n",
+        4,
+    );
+    show_cores(
+        b"three bytes",
+        b"vars=3\nrules=3\ninit=!c\nprop=>c&ab\nrule=ra:>CA\nrule=rb:>CB\nrule=vote:>C&AB\n",
+        3,
+    );
+    show_cores(
+        b"no core",
+        b"vars=1\nrules=1\ninit=1\nprop=a\nrule=r:1\n",
+        0,
+    );
+    show_cores(
+        b"a refused text",
+        b"vars=1\nrules=1\ninit=A\nprop=1\nrule=r:1\n",
+        8,
+    );
+}
+
+fn cut_lists() {
+    show_cuts(
+        b"Tremor cuts",
+        b"vars=3\nrules=3\ninit=!c\nprop=>c&ab\nrule=ra:>CA\nrule=rb:>CB\nrule=vote:>C&AB\n",
+        8,
+    );
+    show_cuts(
+        b"three bytes",
+        b"vars=3\nrules=3\ninit=!c\nprop=>c&ab\nrule=ra:>CA\nrule=rb:>CB\nrule=vote:>C&AB\n",
+        3,
+    );
+    show_cuts(
+        b"the one cut is set 0",
+        b"vars=1\nrules=1\ninit=1\nprop=a\nrule=r:1\n",
+        2,
+    );
+    show_cuts(b"no cut", b"vars=1\nrules=1\ninit=1\nprop=1\nrule=r:1\n", 0);
+    show_cuts(
+        b"the rule twice",
+        b"vars=1\nrules=2\ninit=!a\nprop=!a\nrule=r:=Aa\nrule=s:=Aa\n",
+        2,
+    );
+}
+
+fn must_rules() {
+    show_must(
+        b"Tremor",
+        b"vars=3\nrules=3\ninit=!c\nprop=>c&ab\nrule=ra:>CA\nrule=rb:>CB\nrule=vote:>C&AB\n",
+    );
+    show_must(
+        b"two rules together",
+        b"vars=2\nrules=2\ninit=&!a!b\nprop=!b\nrule=r:=Aa\nrule=s:>Ba\n",
+    );
+    show_must(
+        b"a refused text",
+        b"vars=1\nrules=1\ninit=A\nprop=1\nrule=r:1\n",
+    );
+}
+
 fn main() {
     whole_texts();
     vars_lines();
@@ -364,4 +485,7 @@ fn main() {
     tremor_sets();
     refused_sets();
     other_models();
+    core_lists();
+    cut_lists();
+    must_rules();
 }
