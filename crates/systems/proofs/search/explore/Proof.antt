@@ -31,7 +31,7 @@ explore-spec =
     (λ c. λ starts a. a)
     (λ c κs.
     let f = c .before .before .before in
-    (omega arith, (c .before .before .loop .inv (f .before .args .starts) (f .find-starts .ensures) .sound, c .if1 .taken)))
+    (omega arith, (c .before .before .loop .inv (f .before .args .starts) (f .find-starts .ensures) .sound, omega (arith, c .if1 .taken))))
     (λ c. search needs)
     (λ c.
     let f = c .before .before .before .before in
