@@ -54,13 +54,16 @@ pub record Known (R : ℕ) (h : ℕ → Bool) (known : List ℕ) : Type 0 where
 
 -- ---- the laws
 
-pub nothing-known : (R : ℕ) (h : ℕ → Bool) → R ≤ 16 → Known R h (replicate 65536 0)
-nothing-known R h few =
+none-known : (n R : ℕ) (h : ℕ → Bool) → n ≡ 65536 → R ≤ 16 → Known R h (replicate n 0)
+none-known n R h e few =
     record {
       few = few;
-      size = length-replicate {A = ℕ} 65536 0;
-      right = λ S l s. absurd (s .told (getD-replicate 65536 S 0 0 (omega (arith, pow-mono few))));
+      size = length-replicate {A = ℕ} n 0 ∙ e;
+      right = λ S l s. absurd (s .told (getD-replicate n S 0 0 (omega (arith, pow-mono few))));
     }
+
+pub nothing-known : (R : ℕ) (h : ℕ → Bool) → R ≤ 16 → Known R h (replicate 65536 0)
+nothing-known R h = none-known 65536 R h refl
 
 told-mark : (b : Bool) → mark b ≢ 0
 told-mark true = omega arith

@@ -1,5 +1,5 @@
 // Core list and cut list of a table of verdicts.
 pub mod listing;
-pub mod marks;
+mod marks;
 pub mod seeds;
 pub mod verdicts;

@@ -7,7 +7,7 @@ ghost use Rattle.cores.specs.Known.{markedAbove, markedBelow, heldOf};
 use sets::ruleset::RuleSet;
 
 // Marks every set above this one as one that holds.
-pub fn mark_above(known: &mut [u8; 65536], rules: usize, set: RuleSet)
+pub(crate) fn mark_above(known: &mut [u8; 65536], rules: usize, set: RuleSet)
     requires { ⌜ length (now known) ≡ 65536 ⌝ }
     requires { ⌜ rules ≤ 16 ⌝ }
     ensures { λ _. ⌜ now (known .exit) ≡ markedAbove rules (set .0) (now (known .entry)) ⌝ }
@@ -22,7 +22,7 @@ pub fn mark_above(known: &mut [u8; 65536], rules: usize, set: RuleSet)
 }
 
 // Marks every set below this one as broken.
-pub fn mark_below(known: &mut [u8; 65536], set: RuleSet)
+pub(crate) fn mark_below(known: &mut [u8; 65536], set: RuleSet)
     requires { ⌜ length (now known) ≡ 65536 ⌝ }
     ensures { λ _. ⌜ now (known .exit) ≡ markedBelow (set .0) (now (known .entry)) ⌝ }
 {
@@ -36,7 +36,7 @@ pub fn mark_below(known: &mut [u8; 65536], set: RuleSet)
 }
 
 // The table of the sets that are known to hold.
-pub fn held(known: &[u8; 65536], rules: usize) -> [bool; 65536]
+pub(crate) fn held(known: &[u8; 65536], rules: usize) -> [bool; 65536]
     requires { ⌜ rules ≤ 16 ⌝ }
     ensures { λ r. ⌜ r ≡ heldOf rules (now (known .entry)) ⌝ }
 {

@@ -3,6 +3,7 @@
 ghost use mathlib.Core.Path.{_≡_};
 ghost use mathlib.Core.Bool.{true, false};
 ghost use Prim.Native.Nat.{_^_, _≤_, _<_};
+ghost use Rattle.sets.specs.Bit.{full};
 ghost use Rattle.sets.specs.Cores.{Monotone};
 ghost use Rattle.sets.specs.Lists.{mustOf};
 ghost use Rattle.cores.specs.Tables.{tableOf};
@@ -138,7 +139,36 @@ pub fn verdicts_of(
     crate::marks::held(&known, rules)
 }
 
-// The rules that all cores have in common: those without which the full set is broken. One judgement for each rule, and one more.
+// The rules without which the full set, which holds, is broken: those that can be spared are dropped. One judgement for each rule.
+fn needed(
+    masks: &[u16; 16384],
+    starts: [bool; 128],
+    bads: [bool; 128],
+    states: usize,
+    rules: usize,
+    all: RuleSet,
+) -> RuleSet
+    requires { ⌜ states ≤ 128 ⌝ }
+    requires { ⌜ rules ≤ 16 ⌝ }
+    requires { ⌜ Monotone rules (judgedBy (now masks) starts bads states) ⌝ }
+    requires { ⌜ all .0 ≡ full rules ⌝ }
+    requires { ⌜ judgedBy (now masks) starts bads states (full rules) ≡ true ⌝ }
+    ensures { λ r. ⌜ r .0 ≡ mustOf rules (judgedBy (now (masks .entry)) starts bads states) ⌝ }
+{
+    let mut must = all;
+    let mut i = 0;
+    while i < rules {
+        let less = all.without(i);
+        let fewer = must.without(i);
+        if judged(masks, starts, bads, states, less) {
+            must = fewer;
+        }
+        i += 1;
+    }
+    must
+}
+
+// The rules that all cores have in common; if there is no core, none.
 pub fn must_of(
     masks: &[u16; 16384],
     starts: [bool; 128],
@@ -152,16 +182,9 @@ pub fn must_of(
     ensures { λ r. ⌜ r .0 ≡ mustOf rules (judgedBy (now (masks .entry)) starts bads states) ⌝ }
 {
     let all = RuleSet::full(rules);
-    if !judged(masks, starts, bads, states, all) {
-        return RuleSet::EMPTY;
+    if judged(masks, starts, bads, states, all) {
+        needed(masks, starts, bads, states, rules, all)
+    } else {
+        RuleSet::EMPTY
     }
-    let mut must = RuleSet::EMPTY;
-    let mut i = 0;
-    while i < rules {
-        if !judged(masks, starts, bads, states, all.without(i)) {
-            must = must.with(i);
-        }
-        i += 1;
-    }
-    must
 }

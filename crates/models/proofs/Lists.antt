@@ -2,7 +2,7 @@
 use Prim.Native.Nat.{ℕ, suc, _+_, _-_, _<_, _≤_}
 use mathlib.Core.Path.{_≡_}
 use mathlib.Core.Bool.{Bool, true, false, _&&_, cond, and-eq-true-iff}
-use mathlib.Core.List.{List, [], _∷_}
+use mathlib.Core.List.{List}
 use native.Mathlib.Omega.{arith}
 use native.Mathlib.Numerals.{add-one}
 use borrow.Author.Tests.{leb-true}
@@ -37,8 +37,3 @@ prefix-end c s i h = rw (drop-of-length-le s h)
 count-le : (t : Bool) (n m : ℕ) → n ≤ m → cond t (suc n) 0 ≤ suc m
 count-le true n m h = omega arith
 count-le false n m h = omega arith
-
-pub prefix-le : (c : Class) (s : List ℕ) → prefix c s ≤ length s
-unfolding prefix
-prefix-le c [] = omega arith
-prefix-le c (b ∷ s) = count-le (belongs c b) (prefix c s) (length s) (prefix-le c s)

@@ -1,7 +1,7 @@
 -- The lines of a model text, each read by itself: the first number of 1 to 8 that fits, in the document's order within a line, or what
 -- the line says and how many bytes it has. From document 01, "The model text" and "When a call is turned away". Assumes nothing.
 use Prim.Native.Nat.{ℕ, zero, suc, _+_, _-_}
-use mathlib.Core.Bool.{Bool, true, false, cond, not, _&&_, _||_}
+use mathlib.Core.Bool.{Bool, true, false, cond, _&&_, _||_}
 use mathlib.Core.List.{List, [], _∷_}
 use mathlib.Core.Option.{Option, none, some}
 use lib.Dec.{eqb, leb, ltb}

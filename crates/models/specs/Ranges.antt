@@ -2,7 +2,7 @@
 -- N is at most 7 and R at most 16, and a refusal has a number of 1 to 9 and a line of 1 to 21. From the definitions of `Lines` and
 -- `Reading`, by the tests that a line has passed.
 use Prim.Native.Nat.{ℕ, zero, suc, _+_, _-_, _≤_, _<_, zero-le}
-use mathlib.Core.Path.{_≡_, refl, sym}
+use mathlib.Core.Path.{_≡_}
 use mathlib.Core.Bool.{Bool, true, false, _&&_, and-eq-true-iff}
 use mathlib.Core.List.{List, [], _∷_}
 use native.Mathlib.Omega.{arith}

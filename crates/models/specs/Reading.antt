@@ -1,27 +1,16 @@
 -- The reading of a whole model text, line by line: the first refusal with its line, or where each part of the model stands.
 -- From document 01, "The model text" and "When a call is turned away": after the whole text comes number 9. Assumes nothing.
 use Prim.Native.Nat.{ℕ, zero, suc, _+_}
-use mathlib.Core.Bool.{Bool, true, false, cond}
+use mathlib.Core.Bool.{cond}
 use mathlib.Core.List.{List}
 use lib.Dec.{eqb, ltb}
 use lib.ListN.{length, drop, set, replicate}
 use Rattle.models.specs.declared.lines.Line.{Line}
 use Rattle.models.specs.declared.lines.Line.the-variants.{Fault, Read}
-use Rattle.models.specs.declared.model.Model.{Model}
-use Rattle.models.specs.declared.model.Outcome.{Outcome}
 use Rattle.models.specs.declared.model.Outcome.the-variants.{Accepted, Refused}
 use Rattle.models.specs.declared.model.Reading.{Reading}
 use Rattle.models.specs.declared.model.Rules.{Rules}
 use Rattle.models.specs.Lines.{varsLine, rulesLine, stateLine, ruleLine, isTaken, initKey, propKey}
-
--- the number and the line of an outcome: 0 and 0 for a text that is accepted
-abbrev pub numberOf : Outcome → ℕ
-numberOf Accepted = 0
-numberOf (Refused number line) = number
-
-abbrev pub lineOf : Outcome → ℕ
-lineOf Accepted = 0
-lineOf (Refused number line) = line
 
 -- ---- the rule lines
 

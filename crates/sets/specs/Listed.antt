@@ -29,10 +29,6 @@ pub record Lists (l : List ℕ) (P : ℕ → Type 0) : Type 0 where
 
 -- ---- members stand at places
 
-pub place-of : (S : ℕ) (l : List ℕ) → S ∈ l → (i : ℕ) × (i < length l) × (getD l i 0 ≡ S)
-place-of S (T ∷ l) (List·Memᴰ·head e) = (0, omega arith, sym e)
-place-of S (T ∷ l) (List·Memᴰ·tail m) = let r = place-of S l m in (suc (r .0), omega arith, r .2)
-
 pub at-place : (l : List ℕ) (i : ℕ) → i < length l → getD l i 0 ∈ l
 at-place [] i h = absurd (omega arith)
 at-place (S ∷ l) zero h = List·Memᴰ·head refl

@@ -82,10 +82,6 @@ pub select-more : (q : ℕ → Bool) (n : ℕ) → select q (n + 1) ≡ select q
 unfolding select
 select-more q n = rw add-one
 
-pub bySize-more : (q : ℕ → Bool) (n k : ℕ) → bySize q n (k + 1) ≡ bySize q n k ++ select (sized q k) n
-unfolding bySize
-bySize-more q n k = rw add-one
-
 pub bytesOf-append : (l m : List ℕ) → bytesOf (l ++ m) ≡ bytesOf l ++ bytesOf m
 unfolding bytesOf
 bytesOf-append [] m = refl

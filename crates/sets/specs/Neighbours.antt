@@ -1,16 +1,14 @@
--- Cores and cuts of a monotone judgement read off the sets with one rule less or one rule more, and what one verdict says of other sets.
+-- Cores of a monotone judgement read off the sets with one rule less, and what one verdict says of other sets.
 -- From monotonicity: a proper part lacks a rule, so it is a part of the set without that rule.
 use Prim.Native.Nat.{ℕ, _-_, _^_, _<_}
 use mathlib.Core.Path.{_≡_, sym, _∙_}
 use mathlib.Core.Logic.{_↔_, Iff·trans, Iff·symm}
 use mathlib.Core.Bool.{Bool, true, false, _&&_, true≢false, and-eq-true-iff}
 use native.Mathlib.Omega.{arith}
-use borrow.Author.Tests.{not-false}
 use Rattle.sets.specs.Choice.{alike}
-use Rattle.sets.specs.Bit.{has, full, has-below}
-use Rattle.sets.specs.Sets.{part, part-iff, part-le, without, with, without-part, without-proper, proper-without, rest-without}
-use Rattle.sets.specs.Cores.{Core, Cut, Monotone, noneBelow, breaks, isCore, noneBelow-iff, breaks-iff, breaks-core, isCore-iff, false-if}
-use Rattle.sets.specs.Duality.{breaks-monotone}
+use Rattle.sets.specs.Bit.{has, has-below}
+use Rattle.sets.specs.Sets.{part, part-iff, part-le, without, without-part, without-proper, proper-without}
+use Rattle.sets.specs.Cores.{Core, Monotone, noneBelow, isCore, noneBelow-iff, isCore-iff, false-if}
 
 -- Of the sets of R rules, S passes the test q, and without any one of its rules it does not. (Standard term: 1-minimal.)
 unfoldable pub oneMinimal : ℕ → (ℕ → Bool) → ℕ → Bool
@@ -68,14 +66,3 @@ module _ (R : ℕ) (h : ℕ → Bool) (mono : Monotone R h) where
   oneMinimal-core S l =
       let e = Iff·trans (oneMinimal-iff S) (Iff·trans (Iff·symm (core-neighbours S l)) (Iff·symm (isCore-iff h S))) in
       alike (oneMinimal R h S) (isCore h S) (e .0) (e .1)
-
--- A cut: its removal leaves a broken set, and with any one of its rules back in it that set holds.
-pub cut-neighbours : (R : ℕ) (h : ℕ → Bool) → Monotone R h → (S : ℕ) → S < 2 ^ R
-    → Cut R h S ↔ ((h (full R - S) ≡ false) × ((i : ℕ) → i < R → has S i ≡ true → h (with (full R - S) i) ≡ true))
-unfolding breaks
-cut-neighbours R h mono S l =
-    Iff·trans (Iff·symm (breaks-core R h S))
-    (Iff·trans (core-neighbours R (breaks R h) (breaks-monotone R h mono) S l) (
-      λ p. (breaks-iff R h S .0 (p .0), λ i b e. rw (rest-without R S i l e) at (not-false (h (full R - without S i)) (p .1 i b e))),
-      λ p. (breaks-iff R h S .1 (p .0), λ i b e. rw (rest-without R S i l e, p .1 i b e)),
-    ))

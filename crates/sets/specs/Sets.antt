@@ -6,7 +6,6 @@ use mathlib.Core.Logic.{_↔_, _≢_, _⊎_, inl, inr, ⊎-elim}
 use mathlib.Core.Bool.{Bool, true}
 use native.Mathlib.Omega.{arith}
 use lib.Dec.{eqb}
-use native.Mathlib.Decide.{ℕ-discrete}
 use lib.Bits.{bitAnd, bitOr, and-le-r}
 use lib.Count.{ones}
 use borrow.Author.Tests.{eqb-true, eq-eqb}
@@ -123,25 +122,6 @@ proper-without {S} {T} p =
 pub without-proper : (S i : ℕ) → has S i ≡ true → ProperPart (without S i) S
 without-proper S i e =
     record { within = without-part S i; other = λ same. has-without S i i .0 (rw same e) .1 refl }
-
--- The less is taken away, the more is left: what is left without a set less one of its rules has that rule more.
-pub rest-without : (R S i : ℕ) → S < 2 ^ R → has S i ≡ true → full R - without S i ≡ with (full R - S) i
-rest-without R S i h e =
-    let below : without S i < 2 ^ R = omega (arith, part-le (without-part S i)) in
-    part-antisym
-    (record {
-      every = λ j m. let r = has-rest R (without S i) j below .0 m in has-with (full R - S) i j .1 (left j r (ℕ-discrete j i));
-    })
-    (record {
-      every = λ j m.
-          has-rest R (without S i) j below .1
-          (⊎-elim (λ m. let r = has-rest R S j h .0 m in (r .0, λ w. r .1 (has-without S i j .0 w .0)))
-          (λ same. (rw same (has-below R S i h e), λ w. has-without S i j .0 w .1 same)) (has-with (full R - S) i j .0 m));
-    })
-  where
-    left : (j : ℕ) → (j < R) × (¬ (has (without S i) j ≡ true)) → Dec (j ≡ i) → (has (full R - S) j ≡ true) ⊎ (j ≡ i)
-    left j r (yes same) = inr same
-    left j r (no other) = inl (has-rest R S j h .1 (r .0, λ m. r .1 (has-without S i j .1 (m, other))))
 
 -- ---- a shared rule
 

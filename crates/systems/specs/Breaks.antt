@@ -3,9 +3,8 @@
 use Prim.Native.Nat.{ℕ, zero, suc, _≤_, _<_}
 use mathlib.Core.Path.{_≡_, refl, sym, ap, _∙_}
 use mathlib.Core.Logic.{_⊎_, inl, inr, ⊎-elim}
-use mathlib.Core.Bool.{Bool, true, false, _&&_, and-eq-true-iff}
+use mathlib.Core.Bool.{Bool, true, _&&_, and-eq-true-iff}
 use mathlib.Core.List.{List, [], _∷_}
-use mathlib.Mathlib.Data.Bool.Basic.{eq-false-of-not-eq-true}
 use native.Mathlib.Nat.{eq-or-lt-of-le}
 use native.Mathlib.Omega.{arith}
 use lib.ListN.{length}
@@ -49,15 +48,6 @@ pick-candidate M from k e =
     let (a, b) = and-eq-true-iff (from s) (breaksIn M k s) .0 f in
     record { state = h; among = a; breaks = b }
 
-pub pick-is : {M : System} {from : ℕ → Bool} {k s : ℕ} → Candidate M from k s → ((t : ℕ) → t < s → Candidate M from k t → ⊥)
-    → pick M from k ≡ s
-pick-is {M} {from} {k} {s} c none =
-    let no-less : ¬ (pick M from k < s) = λ h. none (pick M from k) h (pick-candidate M from k (breaksFrom-intro c)) in
-    omega (arith, pick-least c)
-
-pub breaksFrom-none : {M : System} {from : ℕ → Bool} {k : ℕ} → ((s : ℕ) → Candidate M from k s → ⊥) → breaksFrom M from k ≡ false
-breaksFrom-none {M} {from} {k} none = eq-false-of-not-eq-true (λ e. none (pick M from k) (pick-candidate M from k e))
-
 -- The first state of a walk to a bad state is a candidate.
 pub candidate : {M : System} {from : ℕ → Bool} {s : ℕ} (r : List ℕ) → BadWalk M from (s ∷ r) → Candidate M from (length r) s
 unfolding last
@@ -71,15 +61,6 @@ candidate {M} {from} {s} (t ∷ r) b = record {
   among = b .walk .first;
   breaks = breaksIn-suc M (length r) s ∙ breaksFrom-intro (candidate r (badwalk-rest b));
 }
-
-pub greedy-zero : (M : System) (from : ℕ → Bool) → greedy M from zero ≡ pick M from zero ∷ []
-unfolding greedy
-greedy-zero M from = refl
-
-pub greedy-suc : (M : System) (from : ℕ → Bool) (k : ℕ)
-    → greedy M from (suc k) ≡ pick M from (suc k) ∷ greedy M (M .step (pick M from (suc k))) k
-unfolding greedy
-greedy-suc M from k = refl
 
 pub length-greedy : (M : System) (from : ℕ → Bool) (k : ℕ) → length (greedy M from k) ≡ suc k
 unfolding greedy

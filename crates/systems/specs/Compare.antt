@@ -1,15 +1,14 @@
 -- Two systems compared: with fewer start states, steps and bad states a system holds if the other does (source document 000, Lemma 1),
 -- and systems that agree on their states have the same verdict and the same trace. Assumes nothing.
 use Prim.Native.Nat.{ℕ, zero, suc, _<_}
-use mathlib.Core.Path.{_≡_, sym, ap₂, _∙_}
+use mathlib.Core.Path.{_≡_, sym, _∙_}
 use mathlib.Core.Logic.{⊎-elim}
-use mathlib.Core.Bool.{true, false, _&&_}
+use mathlib.Core.Bool.{true, false}
 use mathlib.Core.List.{List}
 use mathlib.Mathlib.Data.Bool.Basic.{dichotomy, partialOrderLaws}
 use native.Mathlib.Omega.{arith}
-use Rattle.systems.specs.Least.{least-same, any-same}
 use Rattle.systems.specs.System.{System, last, Breach, Holds, Trace}
-use Rattle.systems.specs.Verdict.{breaksIn, breaksFrom, depth, holds, holdsTo, traceOf}
+use Rattle.systems.specs.Verdict.{holds, holdsTo, traceOf}
 use Rattle.systems.specs.Walks.{walk-last, holds-no-breach, no-breach-holds}
 use Rattle.systems.specs.Judged.{judged, holds-iff, holdsBelow-iff}
 
@@ -67,15 +66,6 @@ same-sym e = record {
 }
 
 module _ {N M : System} (e : Same N M) where
-  pub same-breaksIn : (k s : ℕ) → s < N .size → breaksIn N k s ≡ breaksIn M k s
-  unfolding breaksIn
-  same-breaksIn zero s h = e .bad s h
-  same-breaksIn (suc k) s h = any-same (e .size) (λ t g. ap₂ _&&_ (e .step s t h g) (same-breaksIn k t g))
-
-  pub same-depth : depth N ≡ depth M
-  unfolding depth breaksFrom
-  same-depth = least-same (e .size) (λ k _. any-same (e .size) (λ t g. ap₂ _&&_ (e .start t g) (same-breaksIn k t g)))
-
   pub same-holds : holds N ≡ holds M
   same-holds = partialOrderLaws .le-antisymm (holds N) (holds M) (part-holds (same-part (same-sym e))) (part-holds (same-part e))
 

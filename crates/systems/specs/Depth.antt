@@ -5,7 +5,7 @@ use mathlib.Core.Path.{_≡_, sym, _∙_}
 use mathlib.Core.Bool.{Bool, true, false, true≢false}
 use mathlib.Mathlib.Data.Bool.Basic.{eq-false-of-not-eq-true}
 use native.Mathlib.Omega.{arith}
-use Rattle.systems.specs.Least.{least, any, IsLeast, least-is-least, least-at-most, least-only, any-intro, any-elim, any-none}
+use Rattle.systems.specs.Least.{least, any, IsLeast, least-is-least, least-at-most, any-intro, any-elim, any-none}
 use Rattle.systems.specs.Count.{count, count-le, count-more}
 use Rattle.systems.specs.System.{System}
 use Rattle.systems.specs.Verdict.{breaksIn, breaksFrom, pick, depth}
@@ -58,10 +58,6 @@ at-least M from (suc k) r =
 pub depth-is-least : (M : System) → IsLeast (M .size) (breaksFrom M (M .start)) (depth M)
 unfolding depth
 depth-is-least M = least-is-least (M .size) (breaksFrom M (M .start))
-
-pub depth-only : (M : System) (d : ℕ) → IsLeast (M .size) (breaksFrom M (M .start)) d → depth M ≡ d
-unfolding depth
-depth-only M d r = least-only r
 
 pub depth-at-most : (M : System) (k : ℕ) → breaksFrom M (M .start) k ≡ true → depth M ≤ k
 unfolding depth

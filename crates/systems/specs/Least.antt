@@ -1,7 +1,7 @@
 -- The least number below a bound that passes a test, and whether there is one: two functions, and the laws by which proofs use them.
 -- Assumes nothing.
 use Prim.Native.Nat.{ℕ, zero, suc, _≤_, _<_}
-use mathlib.Core.Path.{_≡_, refl, sym, ap₂, _∙_}
+use mathlib.Core.Path.{_≡_, refl, sym, _∙_}
 use mathlib.Core.Bool.{Bool, true, false, true≢false}
 use mathlib.Mathlib.Data.Bool.Basic.{eq-false-of-not-eq-true}
 use native.Mathlib.Omega.{arith}
@@ -77,7 +77,3 @@ any-elim n p e =
 
 pub any-none : (n : ℕ) (p : ℕ → Bool) → ((k : ℕ) → k < n → p k ≡ false) → any n p ≡ false
 any-none n p none = eq-false-of-not-eq-true (λ e. true≢false (sym (any-elim n p e .1) ∙ none (least n p) (any-elim n p e .0)))
-
-pub any-same : {n m : ℕ} {p q : ℕ → Bool} → n ≡ m → ((k : ℕ) → k < n → p k ≡ q k) → any n p ≡ any m q
-unfolding any
-any-same {n} {m} {p} {q} e same = ap₂ ltb (least-same e same) e

@@ -6,7 +6,7 @@ use mathlib.Core.Path.{_≡_, refl, sym, ap, _∙_}
 use mathlib.Core.Logic.{_↔_, _≢_, inl, inr, ⊎-elim, ⊎-map}
 use mathlib.Core.Bool.{Bool, true, false, cond, _||_, or-false, true≢false}
 use mathlib.Core.List.{List, [], _∷_, _++_}
-use mathlib.Mathlib.Data.Bool.Basic.{dichotomy, or-inr, eq-true-of-not-eq-false, eq-false-of-not-eq-true}
+use mathlib.Mathlib.Data.Bool.Basic.{dichotomy, or-inr, eq-false-of-not-eq-true}
 use native.Mathlib.Nat.{eq-or-lt-of-le}
 use native.Mathlib.Omega.{arith}
 use native.Mathlib.Numerals.{add-one}
@@ -16,12 +16,12 @@ use lib.Dec.{eqb, leb, ltb}
 use lib.ListN.{length, getD, length-append, List·getD-append}
 use lib.Seq.{getD-append-seam}
 use Rattle.systems.specs.Least.{least, IsLeast, least-is-least}
-use Rattle.systems.specs.Count.{count, count-le, count-none, count-more, count-one-more}
+use Rattle.systems.specs.Count.{count, count-le, count-none, count-one-more}
 use Rattle.systems.specs.System.{System, last, Run, Breach, Reached, Trace}
 use Rattle.systems.specs.Walks.{walk-one, walk-snoc, walk-last, last-snoc}
 use Rattle.systems.specs.Verdict.{holds, traceOf}
 use Rattle.systems.specs.Judged.{judged, holds-iff}
-use Rattle.systems.specs.Compare.{Same, same-traceOf}
+use Rattle.systems.specs.Compare.{Same}
 use Rattle.systems.specs.Search.{isMarked, tryState, tryRow, explored, search, firstBad}
 use Rattle.systems.specs.Sooner.{Sooner, sooner-trans, sooner-snoc, sooner-last, walk-grows}
 use Rattle.systems.specs.Sooner.{NoLater, no-later-trans, no-later-snoc, no-later-length, no-later-first}
@@ -131,16 +131,6 @@ module _ {M : System} {q : List (List ℕ)} (f : Found M q) where
   -- So there are at most as many as there are states,
   pub found-short : length q ≤ M .size
   found-short = omega (arith, f .counted, count-le (M .size) (isMarked q))
-
-  -- fewer while a state is not marked,
-  pub found-room : (s : ℕ) → s < M .size → isMarked q s ≡ false → length q < M .size
-  found-room s h e =
-      omega (
-        arith,
-        f .counted,
-        count-more (isMarked q) (λ _. true) (λ _ _. refl) (M .size) s h e refl,
-        count-le (M .size) (λ _. true),
-      )
 
   -- and what is no state is not marked.
   pub found-states : (s : ℕ) → M .size ≤ s → isMarked q s ≡ false
@@ -311,12 +301,6 @@ module _ (M : System) where
   pub explored-short : (i : ℕ) → length (explored M i) ≤ M .size
   explored-short i = found-short (explored-found i)
 
-  -- The same is true at any time between, while the run at place i is tried.
-  pub explored-row : (i : ℕ) → i < length (explored M i) → (n : ℕ) → n ≤ M .size
-      → Row M (M .step (last (getD (explored M i) i []))) (getD (explored M i) i []) (explored M i) n
-      (tryRow (M .step (last (getD (explored M i) i []))) (getD (explored M i) i []) n (explored M i))
-  explored-row i = next-row (explored-is M i)
-
   -- The search has ended as soon as every run found has been tried.
   pub search-ended : (i : ℕ) → length (explored M i) ≤ i → search M ≡ explored M i
   unfolding search
@@ -419,13 +403,6 @@ module _ (M : System) where
           let h : length (search M) ≤ j = ltb-false j (length (search M)) e in
           firstBad-none M (search M) (λ k g. is .before k (omega arith)) ∙ sym (judged M .held (holds-marks .1 (good h)))
 
-  -- It is empty exactly if the system holds.
-  pub search-holds : (firstBad M (search M) ≡ []) ↔ (holds M ≡ true)
-  search-holds = (
-    λ e. eq-true-of-not-eq-false (λ b. omega (arith, judged M .at-least-one b, ap length (sym search-trace ∙ e))),
-    λ e. search-trace ∙ judged M .held e,
-  )
-
 -- ---- two systems that agree on their states
 
 module _ {N M : System} (e : Same N M) where
@@ -449,6 +426,3 @@ module _ {N M : System} (e : Same N M) where
   pub same-search : search N ≡ search M
   unfolding search
   same-search = same-explored (N .size) ∙ ap (explored M) (e .size)
-
-  pub same-firstBad : firstBad N (search N) ≡ firstBad M (search M)
-  same-firstBad = search-trace N ∙ same-traceOf e ∙ sym (search-trace M)

@@ -171,10 +171,6 @@ module _ (rows n : ℕ) (f : ℕ → ℕ → ℕ) where
   pair-at s t a b c d = getD-tabulate 16384 (entryOf rows n f) 0 (128 * s + t) (omega arith) ∙ entry-at s t a c d
 
 module _ (text : List ℕ) (m : Model) where
-  pub length-masks : length (masksOf text m) ≡ 16384
-  unfolding masksOf
-  length-masks = length-pairs (2 ^ m .vars) (2 ^ m .vars) (maskOf text m)
-
   -- The entry of a pair of states is its mask.
   pub mask-at : (s t : ℕ) → m .vars ≤ 7 → s < 2 ^ m .vars → t < 2 ^ m .vars → getD (masksOf text m) (128 * s + t) 0 ≡ maskOf text m s t
   unfolding masksOf

@@ -1,7 +1,7 @@
 -- The tables of a model give each of its rule sets the system that the set means, so the trace found in them is the set's trace.
 -- From the laws of the tables and of systems that agree on their states.
 use Prim.Native.Nat.{ℕ, _^_, _≤_, _<_}
-use mathlib.Core.Path.{_≡_, refl, sym, ap, _∙_}
+use mathlib.Core.Path.{refl, sym, ap, _∙_}
 use mathlib.Core.List.{List}
 use native.Mathlib.Omega.{arith}
 use lib.Bits.{bitAnd, and-comm}

@@ -62,7 +62,7 @@ fn run_at(x: Runs, j: usize) -> Trace
     Trace { length, states }
 }
 
-pub fn trace_of(
+pub(crate) fn trace_of(
     masks: &[u16; 16384],
     starts: [bool; 128],
     bads: [bool; 128],

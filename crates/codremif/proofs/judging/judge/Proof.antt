@@ -1,24 +1,18 @@
 -- `codremif::judging::judge` meets its contract: a refused text is answered by its number and line, and an accepted one is judged as it is read.
 -- Assumes nothing.
-use mathlib.Core.Path.{_≡_, sym, ap, _∙_}
 use borrow.Author.Needs.{needs}
-use Rattle.codremif.specs.Answers.{textOutcome, modelOf}
-use Rattle.codremif.proofs.JudgeFacts.{by-text}
+use Rattle.codremif.proofs.JudgeFacts.{is-read, is-refused, by-text}
 use Rattle.codremif.proofs.judging.judge.Statement.{statement}
 use Rattle.codremif.proofs.judging.judge.Tie as tie
 
 pub judge-spec : {M : Type 1} → statement M
-unfolding textOutcome modelOf
 judge-spec =
     tie.close
     (tie.spec
-    (λ c κs. search needs)
+    (λ c κs. tt)
+    (λ c. c .match .keys1)
+    (λ c. c .match .keys2)
+    (λ c κs. is-read _ (c .before .before .before .before .read-model .ensures) (c .before .before .enum-told .given .1))
+    (λ c. by-text _ _ _ (is-refused _ (c .before .before .before .read-model .ensures) (c .before .outcome .given .1)))
     (λ c. search needs)
-    (λ c. search needs)
-    (λ c κs. record {
-      outcome = ap (λ r. r .outcome) (sym (c .before .before .before .before .read-model .ensures)) ∙ c .before .before .enum-told .given .1;
-      model = ap (λ r. r .model) (c .before .before .before .before .read-model .ensures);
-    })
-    (λ c. by-text _ _ _ (ap (λ r. r .outcome) (sym (c .before .before .before .read-model .ensures)) ∙ c .before .outcome .given .1))
-    (λ c. search needs)
-    (λ c. search needs))
+    (λ c. c .before .before .judge-model .ensures))

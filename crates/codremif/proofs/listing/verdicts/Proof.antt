@@ -1,12 +1,7 @@
 -- `codremif::listing::verdicts` meets its contract: the judgement by the tables of the model is the judgement of the model.
 -- Assumes nothing.
-use Prim.Native.Nat.{_^_}
-use mathlib.Core.Path.{ap, _∙_}
-use native.Mathlib.Omega.{arith}
-use Rattle.systems.specs.TablesTell.{states-le}
-use Rattle.cores.specs.Tables.{tableOf}
 use Rattle.codremif.proofs.JudgeFacts.{vars-le, rules-le}
-use Rattle.codremif.proofs.ListFacts.{judged-alike, tables-monotone, tables-verdicts}
+use Rattle.codremif.proofs.ListFacts.{tables-asked, tables-verdicts}
 use Rattle.codremif.proofs.listing.verdicts.Statement.{statement}
 use Rattle.codremif.proofs.listing.verdicts.Tie as tie
 
@@ -19,10 +14,8 @@ verdicts-spec =
     (λ c κs. vars-le (c .before .before .before .pre))
     (λ c κs. vars-le (c .before .before .before .before .pre))
     (λ c κs.
-    let r = c .before .before .before .before .before .before .pre in (
-      omega (arith, c .before .state-count .ensures, states-le (c .before .before .before .before .before .before .args .m .vars) (vars-le r)),
-      (rules-le r, rw (judged-alike (c .before .before .before .before .pair-masks .ensures) (c .before .before .before .start-marks .ensures) (c .before .before .bad-marks .ensures) (c .before .state-count .ensures)) (tables-monotone r)),
-    ))
+    let b = c .before .before in
+    tables-asked (b .before .before .before .before .pre) (b .before .before .pair-masks .ensures) (b .before .start-marks .ensures) (b .bad-marks .ensures) (c .before .state-count .ensures))
     (λ c.
-    let a = c .before .before .before .before .before .before .before in
-    tables-verdicts (a .pre) _ (c .verdicts-of .ensures ∙ ap (tableOf (2 ^ a .args .m .rules)) (judged-alike (c .before .before .before .before .before .pair-masks .ensures) (c .before .before .before .before .start-marks .ensures) (c .before .before .before .bad-marks .ensures) (c .before .before .state-count .ensures)))))
+    let b = c .before .before .before in
+    tables-verdicts (b .before .before .before .before .pre) (b .before .before .pair-masks .ensures) (b .before .start-marks .ensures) (b .bad-marks .ensures) (c .before .before .state-count .ensures) _ (c .verdicts-of .ensures)))

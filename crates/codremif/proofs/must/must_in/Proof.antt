@@ -1,11 +1,7 @@
 -- `codremif::must::must_in` meets its contract: the judgement by the tables of the model is the judgement of the model.
 -- Assumes nothing.
-use mathlib.Core.Path.{ap, _∙_}
-use native.Mathlib.Omega.{arith}
-use Rattle.sets.specs.Lists.{mustOf}
-use Rattle.systems.specs.TablesTell.{states-le}
 use Rattle.codremif.proofs.JudgeFacts.{vars-le, rules-le}
-use Rattle.codremif.proofs.ListFacts.{judged-alike, tables-monotone, must-is}
+use Rattle.codremif.proofs.ListFacts.{tables-asked, tables-must}
 use Rattle.codremif.proofs.must.must_in.Statement.{statement}
 use Rattle.codremif.proofs.must.must_in.Tie as tie
 
@@ -18,10 +14,8 @@ must-in-spec =
     (λ c κs. vars-le (c .before .before .before .pre))
     (λ c κs. vars-le (c .before .before .before .before .pre))
     (λ c κs.
-    let r = c .before .before .before .before .before .before .pre in (
-      omega (arith, c .before .state-count .ensures, states-le (c .before .before .before .before .before .before .args .m .vars) (vars-le r)),
-      (rules-le r, rw (judged-alike (c .before .before .before .before .pair-masks .ensures) (c .before .before .before .start-marks .ensures) (c .before .before .bad-marks .ensures) (c .before .state-count .ensures)) (tables-monotone r)),
-    ))
+    let b = c .before .before in
+    tables-asked (b .before .before .before .before .pre) (b .before .before .pair-masks .ensures) (b .before .start-marks .ensures) (b .bad-marks .ensures) (c .before .state-count .ensures))
     (λ c.
-    let a = c .before .before .before .before .before .before .before in
-    c .must-of .ensures ∙ ap (mustOf (a .args .m .rules)) (judged-alike (c .before .before .before .before .before .pair-masks .ensures) (c .before .before .before .before .start-marks .ensures) (c .before .before .before .bad-marks .ensures) (c .before .before .state-count .ensures)) ∙ must-is (a .pre)))
+    let b = c .before .before .before in
+    tables-must (b .before .before .before .before .pre) (b .before .before .pair-masks .ensures) (b .before .start-marks .ensures) (b .bad-marks .ensures) (c .before .before .state-count .ensures) _ (c .must-of .ensures)))
