@@ -11,8 +11,6 @@ use lib.ListN.{length, take, length-take}
 use Rattle.sets.specs.Lists.{overwritten}
 use Rattle.models.specs.declared.model.Model.{Model}
 use Rattle.models.specs.declared.model.Outcome.the-variants.{Accepted, Refused}
-use Rattle.models.specs.declared.model.Reading.{Reading}
-use Rattle.models.specs.Reading.{readModel}
 use Rattle.models.specs.Ranges.{ranges}
 use Rattle.systems.specs.System.{System}
 use Rattle.systems.specs.Verdict.{holds, traceOf}
@@ -25,16 +23,6 @@ use Rattle.codremif.specs.declared.answers.JudgeAnswer.{JudgeAnswer}
 use Rattle.codremif.specs.declared.answers.JudgeAnswer.the-variants.{Refused as JudgeRefused, Holds, Broken}
 use Rattle.codremif.specs.Answers.{IsRead, modelOf, systemIn, traceIn, textOutcome, judgeOutcome, verdictOf, judgeAnswer, judgeBytes}
 use Rattle.codremif.specs.AnswerLaws.{judge-numbers, verdict-held, verdict-broken}
-
--- what the reading of a text says
-module _ (text : List ℕ) {r : Reading} (said : r ≡ readModel text) where
-  pub is-read : r .outcome ≡ Accepted → IsRead text (r .model)
-  unfolding textOutcome modelOf
-  is-read e = record { outcome = ap (λ x. x .outcome) (sym said) ∙ e; model = ap (λ x. x .model) said }
-
-  pub is-refused : {number line : ℕ} → r .outcome ≡ Refused number line → textOutcome text ≡ Refused number line
-  unfolding textOutcome
-  is-refused e = ap (λ x. x .outcome) (sym said) ∙ e
 
 -- a call answers `answer` and leaves the lent bytes as `bytes`
 abbrev pub Gives : List ℕ → ℕ → List ℕ → JudgeAnswer → List ℕ → Type 0

@@ -1,7 +1,7 @@
 -- The laws of the answers: each call is refused by the first number that fits and accepted where none does, a refused call changes no lent
 -- byte, and an accepted one answers and writes what the text means. From the definitions in `Answers`, case by case. Assumes nothing.
 use Prim.Native.Nat.{ℕ, _*_, _^_, _≤_, _<_}
-use mathlib.Core.Path.{_≡_, ap}
+use mathlib.Core.Path.{_≡_, sym, ap, _∙_}
 use mathlib.Core.Logic.{_⊎_, inl, inr, ⊎-elim}
 use mathlib.Core.Bool.{Bool, true, false, cond}
 use mathlib.Core.List.{List}
@@ -12,6 +12,8 @@ use lib.ListN.{length}
 use Rattle.sets.specs.Lists.{bytesOf, overwritten, length-bytesOf}
 use Rattle.models.specs.declared.model.Outcome.{Outcome}
 use Rattle.models.specs.declared.model.Outcome.the-variants.{Accepted, Refused}
+use Rattle.models.specs.declared.model.Reading.{Reading}
+use Rattle.models.specs.Reading.{readModel}
 use Rattle.systems.specs.System.{System}
 use Rattle.systems.specs.Verdict.{holds, traceOf}
 use Rattle.codremif.specs.declared.answers.JudgeAnswer.{JudgeAnswer}
@@ -19,7 +21,17 @@ use Rattle.codremif.specs.declared.answers.JudgeAnswer.the-variants.{Ref
 use Rattle.codremif.specs.declared.answers.ListAnswer.{ListAnswer}
 use Rattle.codremif.specs.declared.answers.ListAnswer.the-variants.{Refused as ListRefused, Count}
 use Rattle.codremif.specs.declared.answers.MustAnswer.the-variants.{Refused as MustRefused, Set}
-use Rattle.codremif.specs.Answers.{modelOf, systemIn, traceIn, coresIn, cutsIn, mustIn, _orElse_, refusedIf, textOutcome, lengthOutcome, judgeOutcome, listOutcome, verdictOf, verdictOn, countOf, judgeAnswer, judgeBytes, coresAnswer, coresBytes, cutsAnswer, cutsBytes, mustAnswer}
+use Rattle.codremif.specs.Answers.{IsRead, modelOf, systemIn, traceIn, coresIn, cutsIn, mustIn, _orElse_, refusedIf, textOutcome, lengthOutcome, judgeOutcome, listOutcome, verdictOf, verdictOn, countOf, judgeAnswer, judgeBytes, coresAnswer, coresBytes, cutsAnswer, cutsBytes, mustAnswer}
+
+-- ---- what the reading of a text says
+module _ (text : List ℕ) {r : Reading} (said : r ≡ readModel text) where
+  pub is-read : r .outcome ≡ Accepted → IsRead text (r .model)
+  unfolding textOutcome modelOf
+  is-read e = record { outcome = ap (λ x. x .outcome) (sym said) ∙ e; model = ap (λ x. x .model) said }
+
+  pub is-refused : {number line : ℕ} → r .outcome ≡ Refused number line → textOutcome text ≡ Refused number line
+  unfolding textOutcome
+  is-refused e = ap (λ x. x .outcome) (sym said) ∙ e
 
 -- ---- the first number that fits
 

@@ -19,7 +19,7 @@ use Rattle.exprs.specs.Reading.{readExpr}
 use Rattle.models.specs.declared.model.Outcome.the-variants.{Accepted}
 use Rattle.models.specs.Reading.{readModel}
 use Rattle.models.specs.Written.{Described, ruleAt, Legal, writtenModel, Finds}
-use Rattle.models.specs.WrittenLaws.{accepted-is-found, accepted-is-written}
+use Rattle.models.specs.WrittenLaws.{accepted-is-found}
 use Rattle.systems.specs.System.{System, Breach, Trace}
 use Rattle.systems.specs.Verdict.{holds, traceOf}
 use Rattle.systems.specs.Walks.{holds-no-breach, no-breach-holds}
@@ -48,15 +48,16 @@ meets-value text at q s t = ap (λ o. valueRead o s t) q
 
 -- An accepted text is written from a legal model, and the runs of each set are that model's.
 pub of-model : (text : List ℕ) → textOutcome text ≡ Accepted
-    → (M : Described) × Legal M × ((S : ℕ) → SystemOfModel M S (systemIn text S))
+    → (M : Described) × Legal M × (text ≡ writtenModel M) × ((S : ℕ) → SystemOfModel M S (systemIn text S))
 unfolding textOutcome systemIn modelOf systemOf startOf badOf ruleMet
 of-model text e =
     let f = accepted-is-found text e in
     let M = f .0 in
-    let found = f .2 in
+    let found = f .3 in
     let m = readModel text .model in (
       M,
       f .1,
+      f .2,
       λ S.
           record {
             size = ap (λ n. 2 ^ n) (found .vars);

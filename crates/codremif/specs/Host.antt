@@ -1,16 +1,17 @@
 -- What a C host can read from the one number that a call gives it: every part of the answer, and by number 0 whether the call was accepted.
--- From the ranges of the parts: a trace has at most 128 states, a list fewer than 2^24 sets, MUST is below 2^16. Assumes nothing.
+-- From the ranges of the parts: a trace has at most 128 states, a list at most 2^16 sets, MUST is below 2^16. Assumes nothing.
 use Prim.Native.Nat.{ℕ, zero, suc, _*_, _^_, _≤_, _<_, zero-le}
 use mathlib.Core.Path.{_≡_, refl}
 use mathlib.Core.Logic.{_↔_}
 use mathlib.Core.Bool.{Bool, true, false, cond}
 use mathlib.Core.List.{List}
-use native.Mathlib.Nat.{suc-mul, mul-le-mul}
+use native.Mathlib.Nat.{suc-mul}
 use native.Mathlib.Omega.{arith}
 use lib.Dec.{leb, ltb}
 use lib.ListN.{length, length-append}
 use lib.Pow.{pow-mono}
-use Rattle.sets.specs.Lists.{joined, oneIf, select, sized, bySize, listOf, coresOf, cutsOf, bytesOf}
+use Rattle.sets.specs.Lists.{joined, oneIf, select, listOf, coresOf, cutsOf, bytesOf}
+use Rattle.sets.specs.Growth.{length-listOf}
 use Rattle.sets.specs.Must.{must-below}
 use Rattle.models.specs.declared.model.Outcome.{Outcome}
 use Rattle.models.specs.declared.model.Outcome.the-variants.{Accepted, Refused}
@@ -70,11 +71,11 @@ vars-le : (text : List ℕ) → modelOf text .vars ≤ 7
 unfolding modelOf
 vars-le text = ranges text .vars
 
-rules-le : (text : List ℕ) → modelOf text .rules ≤ 16
+pub rules-le : (text : List ℕ) → modelOf text .rules ≤ 16
 unfolding modelOf
 rules-le text = ranges text .rules
 
-trace-le : (text : List ℕ) (S : ℕ) → length (traceOf (systemIn text S)) ≤ 128
+pub trace-le : (text : List ℕ) (S : ℕ) → length (traceOf (systemIn text S)) ≤ 128
 unfolding systemIn systemOf
 trace-le text S =
     let h : length (traceOf (systemIn text S)) ≤ 2 ^ modelOf text .vars = judged (systemIn text S) .at-most-size in
@@ -94,13 +95,16 @@ select-length q n = omega (arith, joined-length (λ S. oneIf (q S) S) 1 (λ S. a
     at-most true S = omega arith
     at-most false S = omega arith
 
-list-length : (R : ℕ) (q : ℕ → Bool) → R ≤ 16 → length (listOf R q) < 2 ^ 24
-unfolding listOf bySize
-list-length R q h =
-    let l : length (listOf R q) ≤ suc R * 2 ^ R = joined-length (λ size. select (sized q size) (2 ^ R)) (2 ^ R) (λ size. select-length (sized q size) (2 ^ R)) (suc R) in
-    let s : suc R ≤ 17 = omega arith in
-    let m : suc R * 2 ^ R ≤ 17 * 2 ^ 16 = mul-le-mul s (pow-mono h) in
-    omega arith
+list-length : (R : ℕ) (q : ℕ → Bool) → R ≤ 16 → length (listOf R q) ≤ 65536
+list-length R q h = omega (arith, length-listOf R q, select-length q (2 ^ R), pow-mono h)
+
+pub cores-le : (text : List ℕ) → length (coresIn text) ≤ 65536
+unfolding coresIn coresOf
+cores-le text = list-length (modelOf text .rules) _ (rules-le text)
+
+pub cuts-le : (text : List ℕ) → length (cutsIn text) ≤ 65536
+unfolding cutsIn cutsOf
+cuts-le text = list-length (modelOf text .rules) _ (rules-le text)
 
 -- ---- what the host reads
 
@@ -147,14 +151,14 @@ unfolding judgeAnswer
 judge-reads text S lent = verdict-reads (systemIn text S) (judge-numbered text S lent) (trace-le text S)
 
 pub cores-reads : (text lent : List ℕ) → HostReads (listOutcome text (coresIn text) lent) (listParts (coresAnswer text lent))
-unfolding coresAnswer coresOf
+unfolding coresAnswer
 cores-reads text lent =
-    count-reads (coresIn text) (list-numbered text (coresIn text) lent) (list-length (modelOf text .rules) _ (rules-le text))
+    count-reads (coresIn text) (list-numbered text (coresIn text) lent) (omega (arith, cores-le text))
 
 pub cuts-reads : (text lent : List ℕ) → HostReads (listOutcome text (cutsIn text) lent) (listParts (cutsAnswer text lent))
-unfolding cutsAnswer cutsOf
+unfolding cutsAnswer
 cuts-reads text lent =
-    count-reads (cutsIn text) (list-numbered text (cutsIn text) lent) (list-length (modelOf text .rules) _ (rules-le text))
+    count-reads (cutsIn text) (list-numbered text (cutsIn text) lent) (omega (arith, cuts-le text))
 
 pub must-reads : (text : List ℕ) → HostReads (textOutcome text) (mustParts (mustAnswer text))
 unfolding mustAnswer mustIn

@@ -4,6 +4,7 @@ pub mod Bytes
 pub mod Lines
 pub mod Reading
 pub mod Ranges
+pub mod Decimal
 pub mod Written
 pub mod BytesLaws
 pub mod ExpressionsLaws

@@ -8,7 +8,7 @@ use mathlib.Core.Bool.{Bool, true, false, cond, not, _&&_, and-eq-true-iff}
 use mathlib.Core.List.{List, [], _∷_, _++_, append-assoc}
 use native.Mathlib.Omega.{arith}
 use native.Mathlib.Numerals.{add-one}
-use borrow.Author.Tests.{eq-eqb, ne-eqb, eqb-true, lt-ltb, le-ltb, ltb-true, ltb-false, le-leb, leb-true, not-false}
+use borrow.Author.Tests.{eq-eqb, ne-eqb, eqb-true, lt-ltb, ltb-true, le-leb, leb-true, not-false}
 use lib.Dec.{eqb, leb, ltb}
 use lib.ListN.{length, getD, take, drop, length-append, take-append-drop}
 use lib.Seq.{take-append-seam, getD-append-seam, drop-append-seam, drop-append-add, split-at, length-take-le}
@@ -19,7 +19,8 @@ use Rattle.models.specs.declared.lines.Line.{Line}
 use Rattle.models.specs.declared.lines.Line.the-variants.{Fault, Read}
 use Rattle.models.specs.Bytes.{belongs, prefix, same}
 use Rattle.models.specs.Lines.{varsKey, rulesKey, initKey, propKey, ruleKey, lineLength, isLine, valueOf, says, varsIn, rulesIn, counted, varsLine, rulesLine, all, faultOf, withFault, stateLine, isNamed, ruleLine}
-use Rattle.models.specs.Written.{Rule, Within, LegalExpr, LegalRule, line, decimal, writtenRule}
+use Rattle.models.specs.Decimal.{digitsIn, decimal, decimal-one, decimal-two, decimal-short}
+use Rattle.models.specs.Written.{Rule, Within, LegalExpr, LegalRule, line, writtenRule}
 use Rattle.models.specs.ExpressionsLaws.{fault-there, fault-back, legal-in-line}
 use Rattle.models.specs.BytesLaws.{all-nil, all-append, all-more, all-in-line, prefix-all, prefix-seam, all-prefix, prefix-ends, same-true, same-is}
 
@@ -105,24 +106,22 @@ unfolding counted says
 counted-back zero s h = let z : _≡_ {A = ℕ} 0 1 = cc in absurd (omega arith)
 counted-back (suc n) s h = (n, refl)
 
-pub decimal-one : (n : ℕ) → n < 10 → decimal n ≡ (48 + n) ∷ []
-unfolding decimal
-decimal-one n h = rw (lt-ltb n 10 h)
-
-decimal-two : (n : ℕ) → 10 ≤ n → decimal n ≡ (48 + n / 10) ∷ (48 + n % 10) ∷ []
-unfolding decimal
-decimal-two n h = rw (le-ltb n 10 h)
-
 digit-in-line : (n : ℕ) → belongs InLine (48 + n) ≡ true
 unfolding belongs
 digit-in-line n = ap not (ne-eqb (48 + n) 10 (omega arith))
 
+digits-in-line : (most n : ℕ) → all InLine (digitsIn most n) ≡ true
+unfolding digitsIn
+digits-in-line zero n = all-nil InLine
+digits-in-line (suc most) n =
+    by-test (λ v. all InLine v ≡ true) (ltb n 10) (λ _. all-more InLine (48 + n) [] (digit-in-line n) (all-nil InLine))
+    (λ _.
+    all-append InLine (digitsIn most (n / 10)) ((48 + n % 10) ∷ [])
+    ∙ ap₂ _&&_ (digits-in-line most (n / 10)) (all-more InLine (48 + n % 10) [] (digit-in-line (n % 10)) (all-nil InLine)))
+
 decimal-in-line : (n : ℕ) → all InLine (decimal n) ≡ true
 unfolding decimal
-decimal-in-line n =
-    by-test (λ v. all InLine v ≡ true) (ltb n 10)
-    (λ _. all-more InLine (48 + n) [] (digit-in-line n) (all-nil InLine))
-    (λ _. all-more InLine (48 + n / 10) _ (digit-in-line (n / 10)) (all-more InLine (48 + n % 10) [] (digit-in-line (n % 10)) (all-nil InLine)))
+decimal-in-line n = digits-in-line (suc n) n
 
 -- one digit from 1 to the digit `last`
 digit-there : (last n : ℕ) → 1 ≤ n → 48 + n ≤ last → cond (leb 49 (48 + n) && leb (48 + n) last) (48 + n - 48) 0 ≡ n
@@ -161,13 +160,12 @@ vars-count = record { there = λ n w. ap varsIn (decimal-one n (omega arith)) �
     back (b ∷ c ∷ v) n q = absurd (omega arith)
 
 rules-count : Counts rulesIn 16
-unfolding rulesIn decimal
+unfolding rulesIn
 rules-count = record {
   there = λ n w.
-      by-test (λ v. rulesIn v ≡ n) (ltb n 10)
-      (λ e. digit-there 57 n (omega arith) (omega (arith, ltb-true n 10 e)))
-      (λ e.
-      let high : 10 ≤ n = ltb-false n 10 e in
+      decimal-short (λ v. rulesIn v ≡ n) n (omega arith)
+      (λ low. digit-there 57 n (omega arith) (omega arith))
+      (λ high.
       rw (eq-eqb (48 + n / 10) 49 (omega arith), le-leb 48 (48 + n % 10) (omega arith), le-leb (48 + n % 10) 54 (omega arith)) (omega arith));
   back = back;
 }
@@ -188,7 +186,7 @@ rules-count = record {
         let d = two b c n q in
         let ten : b ≡ 48 + suc n / 10 = omega arith in
         let unit : c ≡ 48 + suc n % 10 = omega arith in
-        (omega arith, ap₂ (λ x y. x ∷ y ∷ []) ten unit ∙ sym (decimal-two (suc n) (omega arith)))
+        (omega arith, ap₂ (λ x y. x ∷ y ∷ []) ten unit ∙ sym (decimal-two (suc n) (omega arith) (omega arith)))
     back (b ∷ c ∷ d ∷ v) n q = absurd (omega arith)
 
 pub vars-reads : Reads (Within 1 7) (λ n. line varsKey (decimal n)) (λ n. n) varsLine

@@ -1,13 +1,12 @@
 -- A model as document 01, "The model text", describes it: what it consists of, when it is legal, its written form, and where its parts are found.
 -- `Rattle.models.specs.WrittenLaws` shows that the reading accepts exactly the written forms of legal models, and finds their parts.
 -- Assumes nothing: these are definitions.
-use Prim.Native.Nat.{ℕ, _+_, _/_, _%_, _≤_, _<_}
+use Prim.Native.Nat.{ℕ, _≤_, _<_}
 use mathlib.Core.Path.{_≡_}
 use mathlib.Core.Logic.{_≢_}
-use mathlib.Core.Bool.{Bool, true, false, cond}
+use mathlib.Core.Bool.{Bool, true, false}
 use mathlib.Core.List.{List, [], _∷_, _++_, flatMap}
 use mathlib.Core.Option.{some}
-use lib.Dec.{ltb}
 use lib.ListN.{length, getD, drop}
 use Rattle.exprs.specs.Expr.{Expr, constant, bitNow, bitNext, negation, conjunction, disjunction, implication, equivalence, written, size, Letters}
 use Rattle.exprs.specs.Reading.{readExpr}
@@ -15,6 +14,7 @@ use Rattle.models.specs.declared.classes.Class.the-variants.{InName}
 use Rattle.models.specs.declared.model.Model.{Model}
 use Rattle.models.specs.declared.model.Outcome.the-variants.{Accepted}
 use Rattle.models.specs.declared.model.Reading.{Reading}
+use Rattle.models.specs.Decimal.{decimal}
 use Rattle.models.specs.Lines.{varsKey, rulesKey, initKey, propKey, ruleKey, all, nameOf}
 
 -- ---- what a model consists of
@@ -80,10 +80,6 @@ pub record Legal (M : Described) : Type 0 where
 -- a line: its key with `=`, its value, and byte 10
 unfoldable pub line : List ℕ → List ℕ → List ℕ
 line key value = key ++ (value ++ 10 ∷ [])
-
--- a number below 100 in base ten, with no leading zero
-unfoldable pub decimal : ℕ → List ℕ
-decimal n = cond (ltb n 10) ((48 + n) ∷ []) ((48 + n / 10) ∷ (48 + n % 10) ∷ [])
 
 -- a rule line: `rule=`, a name, `:` and an expression
 unfoldable pub writtenRule : Rule → List ℕ

@@ -1,6 +1,6 @@
 -- The reading is the right one: a text is accepted exactly when it is the written form of a legal model, and then each part of the model is
 -- found at the place that the reading gives for it. From the laws of the lines, along the lines of the text.
-use Prim.Native.Nat.{ℕ, suc, _+_, _*_, _/_, _%_, _≤_, _<_}
+use Prim.Native.Nat.{ℕ, suc, _+_, _*_, _≤_, _<_}
 use mathlib.Core.Path.{_≡_, refl, sym, ap, ap₂, _∙_, subst}
 use mathlib.Core.Logic.{_↔_}
 use mathlib.Core.Bool.{Bool, true, false, cond, not, _&&_, _||_, Bool·beq}
@@ -22,8 +22,9 @@ use Rattle.models.specs.declared.model.Reading.{Reading}
 use Rattle.models.specs.declared.model.Rules.{Rules}
 use Rattle.models.specs.Lines.{varsKey, rulesKey, initKey, propKey, ruleKey, varsLine, rulesLine, stateLine}
 use Rattle.models.specs.Reading.{rulesRead, onLine, finished, readModel}
-use Rattle.models.specs.Written.{Rule, Described, ruleAt, Within, Small, LegalExpr, LegalRule, Legal, line, decimal, writtenRule, writtenModel, Finds, Stands, Parts}
-use Rattle.models.specs.LinesLaws.{Reads, vars-reads, rules-reads, init-reads, prop-reads, line-append, length-line, decimal-one}
+use Rattle.models.specs.Decimal.{decimal, decimal-one, decimal-short}
+use Rattle.models.specs.Written.{Rule, Described, ruleAt, Within, Small, LegalExpr, LegalRule, Legal, line, writtenRule, writtenModel, Finds, Stands, Parts}
+use Rattle.models.specs.LinesLaws.{Reads, vars-reads, rules-reads, init-reads, prop-reads, line-append, length-line}
 use Rattle.models.specs.ExpressionsLaws.{letters-more}
 use Rattle.models.specs.RulesLaws.{LegalRules, behind, Upto, rules-back, rules-there}
 
@@ -197,10 +198,11 @@ accepts-what-is-written text = (accepted-is-written text, λ m. ap (λ t. readMo
 -- ---- what follows for an accepted text
 
 -- the model of an accepted text
-pub accepted-is-found : (text : List ℕ) → readModel text .outcome ≡ Accepted → (M : Described) × Legal M × Finds text M (readModel text)
+pub accepted-is-found : (text : List ℕ) → readModel text .outcome ≡ Accepted
+    → (M : Described) × Legal M × (text ≡ writtenModel M) × Finds text M (readModel text)
 accepted-is-found text q =
     let w = accepted-is-written text q in
-    (w .0, w .1, subst (λ t. Finds t (w .0) (readModel t)) (sym (w .2)) (written-is-found (w .0) (w .1)))
+    (w .0, w .1, w .2, subst (λ t. Finds t (w .0) (readModel t)) (sym (w .2)) (written-is-found (w .0) (w .1)))
 
 stands : {text : List ℕ} {n m : ℕ} {capitals : Bool} {e : Expr} {at : ℕ} → n ≡ m → readExpr (drop at text) ≡ some e → LegalExpr n capitals e → Stands text m capitals at
 stands {e} q p l = record { tree = e; read = p; legal = rw (← q) l }
@@ -211,7 +213,7 @@ accepted-has-parts text q =
     let w = accepted-is-found text q in
     let M = w .0 in
     let legal = w .1 in
-    let f = w .2 in
+    let f = w .3 in
     record {
       vars = rw (f .vars) (legal .vars);
       rules = rw (f .rules) (legal .count);
@@ -265,13 +267,8 @@ rules-length n [] f = omega arith
 rules-length n (r ∷ rs) f =
     omega (arith, rule-length n r (f 0 (omega arith)), rules-length n rs (λ i h. f (suc i) (omega arith)), length-append (writtenRule r) (flatMap writtenRule rs))
 
-decimal-length : (n : ℕ) → length (decimal n) ≤ 2
-unfolding decimal
-decimal-length n = go (ltb n 10)
-  where
-    go : (t : Bool) → length (cond t ((48 + n) ∷ []) ((48 + n / 10) ∷ (48 + n % 10) ∷ [])) ≤ 2
-    go true = omega arith
-    go false = omega arith
+decimal-length : (n : ℕ) → n < 100 → length (decimal n) ≤ 2
+decimal-length n h = decimal-short (λ v. length v ≤ 2) n h (λ _. omega arith) (λ _. omega arith)
 
 -- "no legal model has more than 1,420" bytes
 pub legal-length : (M : Described) → Legal M → length (writtenModel M) ≤ 1420
@@ -283,4 +280,4 @@ legal-length M l =
     let l₄ : List ℕ = line propKey (written (M .prop)) in
     let last : List ℕ = flatMap writtenRule (M .rules) in
     let digit : length (decimal (M .vars)) ≡ 1 = ap length (decimal-one (M .vars) (omega (arith, l .vars .atMost))) in
-    omega (arith, l .count .atMost, l .init .bytes, l .prop .bytes, decimal-length (length (M .rules)), rules-length (M .vars) (M .rules) (l .rules), ap length (written-lines M), length-five l₁ l₂ l₃ l₄ last, length-line varsKey (decimal (M .vars)), length-line rulesKey (decimal (length (M .rules))), length-line initKey (written (M .init)), length-line propKey (written (M .prop)))
+    omega (arith, l .count .atMost, l .init .bytes, l .prop .bytes, decimal-length (length (M .rules)) (omega (arith, l .count .atMost)), rules-length (M .vars) (M .rules) (l .rules), ap length (written-lines M), length-five l₁ l₂ l₃ l₄ last, length-line varsKey (decimal (M .vars)), length-line rulesKey (decimal (length (M .rules))), length-line initKey (written (M .init)), length-line propKey (written (M .prop)))

@@ -4,5 +4,5 @@ mod counts;
 mod expressions;
 mod lines;
 pub mod model;
-mod names;
+pub mod names;
 pub mod parts;

@@ -1,7 +1,7 @@
 // The rule lines: a name that no earlier rule has, `:` and an expression over the bits now and one second later.
 ghost use mathlib.Core.Path.{_≡_};
 ghost use mathlib.Core.Bool.{_&&_};
-ghost use Prim.Native.Nat.{_-_, _≤_};
+ghost use Prim.Native.Nat.{_-_, _≤_, _<_};
 ghost use lib.Dec.{leb, eqb};
 ghost use lib.ListN.{drop};
 ghost use Rattle.models.specs.Lines.{isTaken, nameOf, ruleLine};
@@ -22,6 +22,16 @@ fn one_less(n: usize) -> usize
     if n == 0 { 0 } else { n - 1 }
 }
 
+// The name of rule i, as the places of the names and of the expressions tell it.
+pub fn name_of(text: &[u8], names: [usize; 16], steps: [usize; 16], i: usize) -> &[u8]
+    requires { ⌜ i < 16 ⌝ }
+    ensures { λ r. ⌜ now r ≡ nameOf (now (text .entry)) names steps i ⌝ }
+{
+    let from = names[i];
+    let to = one_less(steps[i]);
+    crate::parts::part(text, from, to)
+}
+
 // Whether one of the first `count` rules has this name.
 fn is_taken(text: &[u8], names: [usize; 16], steps: [usize; 16], count: usize, name: &[u8]) -> bool
     requires { ⌜ count ≤ 16 ⌝ }
@@ -30,9 +40,7 @@ fn is_taken(text: &[u8], names: [usize; 16], steps: [usize; 16], count: usize, n
     let mut found = false;
     let mut j = 0;
     while j < count {
-        let from = names[j];
-        let to = one_less(steps[j]);
-        let earlier = crate::parts::part(text, from, to);
+        let earlier = name_of(text, names, steps, j);
         found = found | crate::parts::same_bytes(earlier, name);
         j += 1;
     }

@@ -122,6 +122,15 @@ digit-other (suc i) (suc j) h = ap suc (digit-other i j (rw one-half at h))
 
 -- ---- the laws
 
+-- The first place, and the places behind it, which half the number has.
+pub has-front : (S : ℕ) → has S 0 ≡ eqb (S % 2) 1
+unfolding has digit
+has-front S = ap (λ (d : ℕ). eqb d 1) (sym (digit-at S 0))
+
+pub has-behind : (S i : ℕ) → has S (suc i) ≡ has (S / 2) i
+unfolding has digit
+has-behind S i = ap (λ (d : ℕ). eqb d 1) (sym (digit-at S (suc i)) ∙ digit-at (S / 2) i)
+
 -- Which rules are in both of two sets.
 pub has-and : (S T i : ℕ) → (has (bitAnd S T) i ≡ true) ↔ ((has S i ≡ true) × (has T i ≡ true))
 has-and S T i =

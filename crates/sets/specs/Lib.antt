@@ -4,6 +4,7 @@ pub mod Bit
 pub mod Sets
 pub mod Cores
 pub mod Lists
+pub mod First
 pub mod Listed
 pub mod Must
 pub mod Edges

@@ -7,7 +7,7 @@ use mathlib.Core.Bool.{Bool, true, false, true≢false}
 use native.Mathlib.Omega.{arith}
 use lib.Pow.{ones-lt}
 use Rattle.sets.specs.Bit.{has, full, has-below}
-use Rattle.sets.specs.Sets.{_⊑_, part-le, part-antisym, part-full, without, has-without, without-part}
+use Rattle.sets.specs.Sets.{_⊑_, part-le, part-antisym, part-full, without, without-le, has-without}
 use Rattle.sets.specs.Cores.{Core, Monotone, false-if}
 use Rattle.sets.specs.Lists.{mustOf}
 use Rattle.sets.specs.Must.{must-iff}
@@ -28,7 +28,7 @@ module _ (R : ℕ) (h : ℕ → Bool) (mono : Monotone R h) where
       }
 
   without-below : (i : ℕ) → without (full R) i < 2 ^ R
-  without-below i = omega (arith, part-le (without-part (full R) i), ones-lt R)
+  without-below i = omega (arith, without-le (full R) i, ones-lt R)
 
   -- A rule is in MUST exactly if the full set holds, and without the rule is broken.
   pub must-rules : (i : ℕ) → (has (mustOf R h) i ≡ true) ↔ ((h (full R) ≡ true) × Needed R h i)

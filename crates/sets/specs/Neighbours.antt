@@ -7,7 +7,7 @@ use mathlib.Core.Bool.{Bool, true, false, _&&_, true≢false, and-eq-true-iff}
 use native.Mathlib.Omega.{arith}
 use Rattle.sets.specs.Choice.{alike}
 use Rattle.sets.specs.Bit.{has, has-below}
-use Rattle.sets.specs.Sets.{part, part-iff, part-le, without, without-part, without-proper, proper-without}
+use Rattle.sets.specs.Sets.{part, part-iff, without, without-le, without-proper, proper-without}
 use Rattle.sets.specs.Cores.{Core, Monotone, noneBelow, isCore, noneBelow-iff, isCore-iff, false-if}
 
 -- Of the sets of R rules, S passes the test q, and without any one of its rules it does not. (Standard term: 1-minimal.)
@@ -35,7 +35,7 @@ module _ (R : ℕ) (h : ℕ → Bool) (mono : Monotone R h) where
       noPart = λ T q t.
           let r = proper-without q in
           true≢false
-          (sym (mono .more T (without S (r .0)) (omega (arith, part-le (without-part S (r .0)))) (r .2) t)
+          (sym (mono .more T (without S (r .0)) (omega (arith, without-le S (r .0))) (r .2) t)
           ∙ p .1 (r .0) (has-below R S (r .0) l (r .1)) (r .1));
     },
   )

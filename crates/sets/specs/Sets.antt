@@ -106,6 +106,10 @@ has-with S i j = (
 pub without-part : (S i : ℕ) → without S i ⊑ S
 without-part S i = record { every = λ j e. has-without S i j .0 e .0 }
 
+-- It has no greater number, so it stays a set of as many rules.
+pub without-le : (S i : ℕ) → without S i ≤ S
+without-le S i = part-le (without-part S i)
+
 -- A proper part lacks a rule of the whole, so it is a part of the whole without that rule.
 pub proper-without : {S T : ℕ} → ProperPart T S → (i : ℕ) × (has S i ≡ true) × (T ⊑ without S i)
 proper-without {S} {T} p =

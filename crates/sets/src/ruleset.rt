@@ -1,7 +1,7 @@
 // A set of rules as a number: the first rule weighs 1, the next 2, and so on. No model has more than 16 rules.
 ghost use mathlib.Core.Path.{_≡_};
 ghost use Prim.Native.Nat.{_^_, _<_, _≤_};
-ghost use lib.Count.{ones};
+ghost use lib.Count.{ones, trailingZeros};
 ghost use Rattle.sets.specs.Bit.{has, full};
 ghost use Rattle.sets.specs.Sets.{without, with};
 
@@ -31,6 +31,13 @@ impl RuleSet {
         ensures { λ r. ⌜ r ≡ ones (self .0) ⌝ }
     {
         u16::count_ones(self.0) as usize
+    }
+
+    // The first rule of the set in the model's order; 16 if it has none.
+    pub fn first(self) -> usize
+        ensures { λ r. ⌜ r ≡ trailingZeros 16 (self .0) ⌝ }
+    {
+        u16::trailing_zeros(self.0) as usize
     }
 
     // Whether a rule is in the set.

@@ -1,7 +1,7 @@
 -- `codremif::listing::list_cuts` meets its contract: a refused text is answered by its number and line, and an accepted one as it is read.
 -- Assumes nothing.
 use borrow.Author.Needs.{needs}
-use Rattle.codremif.proofs.JudgeFacts.{is-read, is-refused}
+use Rattle.codremif.specs.AnswerLaws.{is-read, is-refused}
 use Rattle.codremif.proofs.ListFacts.{cuts-refused}
 use Rattle.codremif.proofs.listing.list_cuts.Statement.{statement}
 use Rattle.codremif.proofs.listing.list_cuts.Tie as tie

@@ -1,6 +1,6 @@
 -- `codremif::must::give_must` meets its contract: a refused text is answered by its number and line, and an accepted one as it is read.
 -- Assumes nothing.
-use Rattle.codremif.proofs.JudgeFacts.{is-read, is-refused}
+use Rattle.codremif.specs.AnswerLaws.{is-read, is-refused}
 use Rattle.codremif.proofs.ListFacts.{must-given, must-refused}
 use Rattle.codremif.proofs.must.give_must.Statement.{statement}
 use Rattle.codremif.proofs.must.give_must.Tie as tie

@@ -1,0 +1,3 @@
+mod Putting
+mod Naming
+mod Called

@@ -1,0 +1,17 @@
+-- `reports::names::set_line` meets its contract: the key, the names and byte 10 are put one after the other. Assumes nothing.
+use borrow.Author.Needs.{needs}
+use Rattle.reports.specs.Report.{setLine}
+use Rattle.reports.proofs.Putting.{line-made}
+use Rattle.reports.proofs.names.set_line.Statement.{statement}
+use Rattle.reports.proofs.names.set_line.Tie as tie
+
+pub set-line-spec : {M : Type 1} → statement M
+unfolding setLine
+set-line-spec =
+    tie.close
+    (tie.spec
+    (λ c κs. search needs)
+    (λ c κs. search needs)
+    (λ c κs. search needs)
+    (λ c. search needs)
+    (λ c. line-made _ _ _ _ _ _ (c .before .before .before .before .before .before .before .before .before .before .put .ensures) (c .before .before .before .before .before .before .put-names .ensures) (c .before .before .put-byte .ensures)))

@@ -1,0 +1,18 @@
+-- `reports::numbers::number_line` meets its contract: the key, the number and byte 10 are put one after the other.
+-- Assumes nothing.
+use borrow.Author.Needs.{needs}
+use Rattle.reports.specs.Report.{numberLine}
+use Rattle.reports.proofs.Putting.{line-made}
+use Rattle.reports.proofs.numbers.number_line.Statement.{statement}
+use Rattle.reports.proofs.numbers.number_line.Tie as tie
+
+pub number-line-spec : {M : Type 1} → statement M
+unfolding numberLine
+number-line-spec =
+    tie.close
+    (tie.spec
+    (λ c κs. search needs)
+    (λ c κs. search needs)
+    (λ c κs. search needs)
+    (λ c. search needs)
+    (λ c. line-made _ _ _ _ _ _ (c .before .before .before .before .before .before .before .before .before .before .put .ensures) (c .before .before .before .before .before .before .put-decimal .ensures) (c .before .before .put-byte .ensures)))

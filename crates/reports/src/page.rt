@@ -1,0 +1,43 @@
+// Putting bytes on a page: a lent slice that takes a part of a longer text.
+ghost use mathlib.Core.Path.{_≡_};
+ghost use Rattle.reports.specs.Page.{pageOf, putByte, put};
+
+// Where the next byte goes: so many are still to be passed over, and then the next is stored at this place.
+pub(crate) struct Place {
+    pub(crate) skip: usize,
+    pub(crate) at: usize,
+}
+
+// Puts one byte, which is stored if it is not to be passed over and the page has room.
+pub(crate) fn put_byte(b: u8, p: Place, page: &mut [u8]) -> Place
+    ensures { λ r. ⌜ pageOf r (now (page .exit)) ≡ putByte b (pageOf p (now (page .entry))) ⌝ }
+{
+    let at = p.at;
+    if 0 < p.skip {
+        return Place {
+            skip: p.skip - 1,
+            at,
+        };
+    }
+    if page.len() <= at {
+        return p;
+    }
+    page[at] = b;
+    Place {
+        skip: p.skip,
+        at: at + 1,
+    }
+}
+
+// Puts bytes one after the other.
+pub(crate) fn put(src: &[u8], p: Place, page: &mut [u8]) -> Place
+    ensures { λ r. ⌜ pageOf r (now (page .exit)) ≡ put (now (src .entry)) (pageOf p (now (page .entry))) ⌝ }
+{
+    let mut q = p;
+    let mut i = 0;
+    while i < src.len() {
+        q = put_byte(src[i], q, page);
+        i += 1;
+    }
+    q
+}

@@ -1,0 +1,112 @@
+// The report of a text.
+ghost use mathlib.Core.Path.{_≡_};
+ghost use lib.ListN.{length};
+ghost use Rattle.sets.specs.Lists.{overwritten};
+ghost use Rattle.sets.specs.Bit.{full};
+ghost use Rattle.codremif.specs.Answers.{IsRead, modelOf, systemIn, coresIn, cutsIn, mustIn};
+ghost use Rattle.codremif.specs.Packing.{listParts};
+ghost use Rattle.reports.specs.Page.{pageOf, put, window};
+ghost use Rattle.reports.specs.Report.{mustKey, coresKey, coreKey, cutsKey, cutKey, verdictLines, setLine, listLines, modelReport, refusalReport, reportOf};
+use crate::page::Place;
+use codremif::answers::JudgeAnswer;
+use codremif::answers::ListAnswer;
+use codremif::answers::MustAnswer;
+use models::model::Model;
+use models::model::Outcome;
+use sets::ruleset::RuleSet;
+
+fn refusal(number: u8, line: usize, p: Place, page: &mut [u8]) -> Place
+    ensures { λ r. ⌜ pageOf r (now (page .exit)) ≡ put (refusalReport number line) (pageOf p (now (page .entry))) ⌝ }
+{
+    let q = crate::numbers::number_line(b"refused=", number as usize, p, page);
+    crate::numbers::number_line(b"line=", line, q, page)
+}
+
+// The verdict on the full set, and its trace. A trace has at most 128 states, so the call is not refused.
+fn verdict_lines(text: &[u8], m: Model, p: Place, page: &mut [u8]) -> Place
+    requires { ⌜ IsRead (now text) m ⌝ }
+    ensures { λ r. ⌜
+        pageOf r (now (page .exit)) ≡ put (verdictLines (systemIn (now (text .entry)) (full (m .rules)))) (pageOf p (now (page .entry))) ⌝ }
+{
+    let all = RuleSet::full(m.rules);
+    let mut trace = [0u8; 128];
+    let answer = codremif::judging::judge(text, all.0 as u32, &mut trace);
+    match answer {
+        JudgeAnswer::Refused(number, line) => p,
+        JudgeAnswer::Holds => crate::page::put(b"verdict=holds\n", p, page),
+        JudgeAnswer::Broken(n) => {
+            let q = crate::page::put(b"verdict=broken\n", p, page);
+            crate::listing::state_lines(&trace[..n], q, page)
+        }
+    }
+}
+
+fn must_line(text: &[u8], m: Model, p: Place, page: &mut [u8]) -> Place
+    requires { ⌜ IsRead (now text) m ⌝ }
+    ensures { λ r. ⌜
+        pageOf r (now (page .exit)) ≡ put (setLine (now (text .entry)) mustKey (mustIn (now (text .entry)))) (pageOf p (now (page .entry))) ⌝ }
+{
+    let answer = codremif::must::give_must(text);
+    match answer {
+        MustAnswer::Refused(number, line) => p,
+        MustAnswer::Set(set) => crate::names::set_line(text, m, b"must=", RuleSet(set), p, page),
+    }
+}
+
+fn counted(answer: ListAnswer) -> usize
+    ensures { λ r. ⌜ r ≡ listParts answer .amount ⌝ }
+{
+    match answer {
+        ListAnswer::Refused(number, line) => 0,
+        ListAnswer::Count(n) => n,
+    }
+}
+
+// The lent bytes are enough for every set there could be, so the call is not refused.
+fn core_lines(text: &[u8], m: Model, p: Place, page: &mut [u8]) -> Place
+    requires { ⌜ IsRead (now text) m ⌝ }
+    ensures { λ r. ⌜
+        pageOf r (now (page .exit)) ≡ put (listLines (now (text .entry)) coresKey coreKey (coresIn (now (text .entry)))) (pageOf p (now (page .entry))) ⌝ }
+{
+    let mut sets = [0u8; 131072];
+    let n = counted(codremif::listing::list_cores(text, &mut sets));
+    crate::listing::list_lines(text, m, b"cores=", b"core=", &sets, n, p, page)
+}
+
+fn cut_lines(text: &[u8], m: Model, p: Place, page: &mut [u8]) -> Place
+    requires { ⌜ IsRead (now text) m ⌝ }
+    ensures { λ r. ⌜
+        pageOf r (now (page .exit)) ≡ put (listLines (now (text .entry)) cutsKey cutKey (cutsIn (now (text .entry)))) (pageOf p (now (page .entry))) ⌝ }
+{
+    let mut sets = [0u8; 131072];
+    let n = counted(codremif::listing::list_cuts(text, &mut sets));
+    crate::listing::list_lines(text, m, b"cuts=", b"cut=", &sets, n, p, page)
+}
+
+fn model_report(text: &[u8], m: Model, p: Place, page: &mut [u8]) -> Place
+    requires { ⌜ IsRead (now text) m ⌝ }
+    ensures { λ r. ⌜ pageOf r (now (page .exit)) ≡ put (modelReport (now (text .entry))) (pageOf p (now (page .entry))) ⌝ }
+{
+    let q = verdict_lines(text, m, p, page);
+    let s = must_line(text, m, q, page);
+    let t = core_lines(text, m, s, page);
+    cut_lines(text, m, t, page)
+}
+
+// Writes the part of the report that begins after `from` bytes, as much as the page takes, and says how many bytes that are.
+pub fn report(text: &[u8], from: usize, page: &mut [u8]) -> usize
+    ensures { λ r. ⌜ r ≡ length (window from (length (now (page .entry))) (reportOf (now (text .entry)))) ⌝ }
+    ensures { λ _. ⌜
+        now (page .exit) ≡ overwritten (window from (length (now (page .entry))) (reportOf (now (text .entry)))) (now (page .entry)) ⌝ }
+{
+    let start = Place { skip: from, at: 0 };
+    let reading = models::model::read_model(text);
+    let outcome = reading.outcome;
+    match outcome {
+        Outcome::Refused(number, line) => refusal(number, line, start, page).at,
+        Outcome::Accepted => {
+            let m = reading.model;
+            model_report(text, m, start, page).at
+        }
+    }
+}

@@ -1,0 +1,407 @@
+/*
+ * Tests of the four calls as a C host makes them. What is expected is written by hand from document 01. Each text stands in a block of its
+ * own length, and each lent slice between guards, so that valgrind, and without it the guards, see a byte too many.
+ */
+#define _POSIX_C_SOURCE 200809L
+#include <pthread.h>
+#include <stdio.h>
+#include <stdlib.h>
+#include <string.h>
+
+#include "codremif.h"
+#include "models.h"
+
+#define GUARD_BYTES 64
+#define TWO_40 ((uint64_t)1 << 40)
+
+typedef uint64_t (*list_call)(const uint8_t *, size_t, uint8_t *, size_t);
+
+static int failures;
+
+static void check(int good, const char *what)
+{
+    printf("%s %s\n", good ? "ok" : "FAILED", what);
+    failures += !good;
+}
+
+static void *block(size_t size)
+{
+    void *bytes = malloc(size == 0 ? 1 : size);
+    if (bytes == NULL)
+        abort();
+    return bytes;
+}
+
+/* Lent bytes between guards. All of them, the guards too, begin as `fill`. */
+struct lent {
+    uint8_t *all;
+    uint8_t *bytes;
+    size_t length;
+    uint8_t fill;
+};
+
+static struct lent lend(size_t length, uint8_t fill)
+{
+    struct lent lent = {block(length + 2 * GUARD_BYTES), NULL, length, fill};
+    memset(lent.all, fill, length + 2 * GUARD_BYTES);
+    lent.bytes = lent.all + GUARD_BYTES;
+    return lent;
+}
+
+/* Whether the lent bytes begin with these, and everything past them and both guards are as they were. Gives the block back. */
+static int took(struct lent *lent, const uint8_t *written, size_t count)
+{
+    int good = count <= lent->length && (count == 0 || memcmp(lent->bytes, written, count) == 0);
+    for (size_t i = 0; i < lent->length + 2 * GUARD_BYTES; i++)
+        if (i < GUARD_BYTES || i >= GUARD_BYTES + count)
+            good = good && lent->all[i] == lent->fill;
+    free(lent->all);
+    return good;
+}
+
+/* A text in a block of just its length. */
+struct text {
+    uint8_t *bytes;
+    size_t length;
+};
+
+static struct text text_of(const char *bytes, size_t length)
+{
+    struct text text = {block(length), length};
+    memcpy(text.bytes, bytes, length);
+    return text;
+}
+
+/* Whether judging gives this answer and writes these bytes, whatever the lent bytes held. */
+static int judged(struct text text, uint32_t set, size_t lent_bytes, uint64_t answer, const uint8_t *written, size_t count)
+{
+    struct lent clear = lend(lent_bytes, 0x00), filled = lend(lent_bytes, 0xEE);
+    int good = codremif_judge(text.bytes, text.length, set, clear.bytes, lent_bytes) == answer;
+    good = codremif_judge(text.bytes, text.length, set, filled.bytes, lent_bytes) == answer && good;
+    good = took(&clear, written, count) && good;
+    return took(&filled, written, count) && good;
+}
+
+/* Whether listing gives this answer and writes these bytes, whatever the lent bytes held. */
+static int listed(list_call call, struct text text, size_t lent_bytes, uint64_t answer, const uint8_t *written, size_t count)
+{
+    struct lent clear = lend(lent_bytes, 0x00), filled = lend(lent_bytes, 0xEE);
+    int good = call(text.bytes, text.length, clear.bytes, lent_bytes) == answer;
+    good = call(text.bytes, text.length, filled.bytes, lent_bytes) == answer && good;
+    good = took(&clear, written, count) && good;
+    return took(&filled, written, count) && good;
+}
+
+static const char tremor[] = "vars=3\nrules=3\ninit=!c\nprop=>c&ab\nrule=ra:>CA\nrule=rb:>CB\nrule=vote:>C&AB\n";
+static const char chain[] = "vars=2\nrules=2\ninit=&!a!b\nprop=!b\nrule=same:=Aa\nrule=late:>Ba\n";
+static const char quiet[] = "vars=1\nrules=1\ninit=1\nprop=1\nrule=any:1\n";
+
+static void test_unpacking(void)
+{
+    uint64_t answer = 11 + 256 * 21 + 65536 * (uint64_t)65535;
+    check(codremif_number(answer) == 11 && codremif_line(answer) == 21, "the number and the line are taken out of an answer");
+    check(codremif_length(answer) == 65535 && codremif_count(answer) == 65535 && codremif_set(answer) == 65535,
+          "the length, the count and the set are taken out of an answer");
+    check(!codremif_holds(answer) && codremif_holds(answer + TWO_40) == 1, "a verdict that holds is 2^40");
+    check(codremif_number(TWO_40) == 0 && codremif_line(TWO_40) == 0 && codremif_length(TWO_40) == 0, "2^40 is no part of the others");
+    check(codremif_line(255) == 0 && codremif_length(65535) == 0 && codremif_number(256) == 0, "the parts do not overlap");
+    const uint8_t sets[] = {4, 0, 3, 0, 0xCD, 0xAB};
+    check(codremif_set_at(sets, 0) == 4 && codremif_set_at(sets, 1) == 3 && codremif_set_at(sets, 2) == 0xABCD,
+          "a set of a list is two bytes, low byte first");
+}
+
+static void test_refusals(void)
+{
+    const enum codremif_refusal in_order[] = {
+        CODREMIF_ACCEPTED, CODREMIF_LINE_DUE, CODREMIF_COUNT, CODREMIF_NAME, CODREMIF_NAME_TWICE, CODREMIF_EXPRESSION_LENGTH,
+        CODREMIF_BYTE, CODREMIF_LETTER, CODREMIF_NOT_ONE, CODREMIF_BYTES_FOLLOW, CODREMIF_NO_SUCH_SET, CODREMIF_TOO_FEW_BYTES,
+    };
+    int numbers = sizeof in_order / sizeof in_order[0] == 12, words = codremif_words(12)[0] == '\0';
+    for (unsigned number = 0; number <= 11; number++) {
+        numbers = numbers && in_order[number] == number;
+        words = words && codremif_words(number)[0] != '\0';
+    }
+    check(numbers, "the refusals have the numbers 0 to 11");
+    check(words, "each of them has words, and no other number has");
+}
+
+static void test_constants(void)
+{
+    unsigned long ways = 1;
+    for (unsigned i = 1; i <= 8; i++)
+        ways = ways * (16 - i + 1) / i;
+    check(CODREMIF_LIST_SETS == ways && CODREMIF_LIST_BYTES == 2 * ways, "the longest list is 16 over 8 sets");
+    check(CODREMIF_TRACE_BYTES == 1 << 7, "the longest trace is each of 2^7 states");
+    struct model model;
+    model_wide(&model, "!!!!!!!!!!!!!!!!!!!!!!!!!!!!!!!!!!!!!!!!!!!!!!!!!!!!!!!!!!!!!!!a",
+               "!!!!!!!!!!!!!!!!!!!!!!!!!!!!!!!!!!!!!!!!!!!!!!!!!!!!!!!!!!!!!!!#");
+    struct text text = text_of(model.text, model.length);
+    check(model.length == CODREMIF_TEXT_BYTES && codremif_number(codremif_must(text.bytes, text.length)) == 0,
+          "a text of CODREMIF_TEXT_BYTES is accepted");
+    free(text.bytes);
+}
+
+static void test_tremor(void)
+{
+    struct text text = text_of(tremor, sizeof tremor - 1);
+    check(judged(text, 0, 8, 2 * 65536, (const uint8_t[]){0, 4}, 2), "Tremor: set 0 has the trace 0, 4");
+    check(judged(text, 1, 8, 2 * 65536, (const uint8_t[]){0, 5}, 2), "Tremor: set 1 has the trace 0, 5");
+    check(judged(text, 2, 2, 2 * 65536, (const uint8_t[]){0, 6}, 2), "Tremor: set 2 has the trace 0, 6, in two lent bytes");
+    check(judged(text, 3, 8, TWO_40, NULL, 0) && judged(text, 4, 0, TWO_40, NULL, 0) && judged(text, 7, 1, TWO_40, NULL, 0),
+          "Tremor: sets 3, 4 and 7 hold and write nothing");
+    check(listed(codremif_cores, text, 25740, 2 * 65536, (const uint8_t[]){4, 0, 3, 0}, 4), "Tremor: the cores are 4, 3");
+    check(listed(codremif_cores, text, 4, 2 * 65536, (const uint8_t[]){4, 0, 3, 0}, 4), "Tremor: four bytes take the cores");
+    check(listed(codremif_cuts, text, 5, 2 * 65536, (const uint8_t[]){5, 0, 6, 0}, 4), "Tremor: the cuts are 5, 6; a fifth byte is kept");
+    check(codremif_must(text.bytes, text.length) == 0, "Tremor: MUST is 0");
+    check(judged(text, 8, 8, 10, NULL, 0) && judged(text, 65536, 8, 10, NULL, 0) && judged(text, 0xFFFFFFFF, 0, 10, NULL, 0),
+          "Tremor: sets 8, 65536 and 2^32 - 1 are refused by 10");
+    check(judged(text, 0, 1, 11, NULL, 0) && judged(text, 0, 0, 11, NULL, 0), "Tremor: one byte for the trace is refused by 11");
+    check(listed(codremif_cores, text, 3, 11, NULL, 0) && listed(codremif_cuts, text, 3, 11, NULL, 0),
+          "Tremor: three bytes for the list are refused by 11");
+    free(text.bytes);
+}
+
+static void test_other_models(void)
+{
+    struct text text = text_of(chain, sizeof chain - 1);
+    check(judged(text, 2, 4, 3 * 65536, (const uint8_t[]){0, 1, 2}, 3), "N 2: set 2 has the trace 0, 1, 2");
+    check(judged(text, 1, 4, 2 * 65536, (const uint8_t[]){0, 2}, 2), "N 2: set 1 has the trace 0, 2");
+    check(listed(codremif_cores, text, 8, 65536, (const uint8_t[]){3, 0}, 2), "N 2: the core is 3");
+    check(listed(codremif_cuts, text, 8, 2 * 65536, (const uint8_t[]){1, 0, 2, 0}, 4), "N 2: the cuts are 1, 2");
+    check(codremif_must(text.bytes, text.length) == 3 * 65536, "N 2: MUST is 3");
+    free(text.bytes);
+    text = text_of(quiet, sizeof quiet - 1);
+    check(listed(codremif_cores, text, 2, 65536, (const uint8_t[]){0, 0}, 2), "rule 1: the core is 0");
+    check(listed(codremif_cuts, text, 0, 0, NULL, 0), "rule 1: there is no cut, which takes no byte");
+    free(text.bytes);
+}
+
+struct refused {
+    const char *text;
+    unsigned number;
+    unsigned line;
+};
+
+#define COUNTS "vars=1\nrules=1\n"
+#define STATES COUNTS "init=a\nprop=a\n"
+#define BYTES_64 "!!!!!!!!!!!!!!!!!!!!!!!!!!!!!!!!!!!!!!!!!!!!!!!!!!!!!!!!!!!!!!!!"
+
+static const struct refused refused_texts[] = {
+    {"", 1, 1},
+    {"vars=1", 1, 1},
+    {"vars=8\n", 2, 1},
+    {"vars=8\nrules=0\n", 2, 1},
+    {"vars=1\nrules=0\n", 2, 2},
+    {"vars=1\nrules=01\n", 2, 2},
+    {"vars=1\nrules=17\n", 2, 2},
+    {"vars=1\nrules=16\n", 1, 3},
+    {COUNTS "init=\n", 5, 3},
+    {COUNTS "init=" BYTES_64 "a\n", 5, 3},
+    {COUNTS "init=x\n", 6, 3},
+    {COUNTS "init=A\n", 7, 3},
+    {COUNTS "init=b\n", 7, 3},
+    {COUNTS "init=&a\n", 8, 3},
+    {COUNTS "init=aa\n", 8, 3},
+    {COUNTS "init=a\nprop=A\n", 7, 4},
+    {STATES, 1, 5},
+    {STATES "rule=a:1", 1, 5},
+    {STATES "rule=abcdefghi:1\n", 3, 5},
+    {STATES "rule=:1\n", 3, 5},
+    {STATES "rule=a:\n", 5, 5},
+    {"vars=1\nrules=2\ninit=a\nprop=a\nrule=a:1\nrule=a:1\n", 4, 6},
+    {STATES "rule=a:1\nrule=b:1\n", 9, 6},
+    {STATES "rule=a:1\n\n", 9, 6},
+};
+
+/* Whether every call refuses the text by this number and line, with nothing beside them, and leaves each lent byte as it was. */
+static int refused_by_all(struct text text, uint64_t answer)
+{
+    int good = codremif_must(text.bytes, text.length) == answer;
+    for (size_t lent_bytes = 0; lent_bytes <= 128; lent_bytes += 128) {
+        good = judged(text, 0, lent_bytes, answer, NULL, 0) && good;
+        good = judged(text, 0xFFFFFFFF, lent_bytes, answer, NULL, 0) && good;
+        good = listed(codremif_cores, text, lent_bytes, answer, NULL, 0) && good;
+        good = listed(codremif_cuts, text, lent_bytes, answer, NULL, 0) && good;
+    }
+    return good;
+}
+
+static void test_refused_texts(void)
+{
+    for (size_t i = 0; i < sizeof refused_texts / sizeof refused_texts[0]; i++) {
+        const struct refused *r = &refused_texts[i];
+        char what[64];
+        struct text text = text_of(r->text, strlen(r->text));
+        snprintf(what, sizeof what, "refused text %zu: number %u, line %u", i + 1, r->number, r->line);
+        check(refused_by_all(text, r->number + 256 * r->line), what);
+        free(text.bytes);
+    }
+    struct text cut_short = text_of(tremor, sizeof tremor - 2);
+    check(refused_by_all(cut_short, 1 + 256 * 7), "Tremor without its last byte 10: number 1, line 7");
+    free(cut_short.bytes);
+    struct text too_long = text_of(tremor, sizeof tremor);
+    check(refused_by_all(too_long, 9 + 256 * 8), "Tremor with the byte 0 of a C string: number 9, line 8");
+    free(too_long.bytes);
+}
+
+static void test_null(void)
+{
+    uint8_t lent[4] = {1, 2, 3, 4};
+    const uint8_t *text = (const uint8_t *)tremor, *still = (const uint8_t *)quiet;
+    size_t length = sizeof tremor - 1, still_length = sizeof quiet - 1;
+    check(codremif_judge(NULL, 0, 0, lent, 4) == 257 && codremif_judge(NULL, 0, 0, NULL, 0) == 257 &&
+              codremif_cores(NULL, 0, lent, 4) == 257 && codremif_cores(NULL, 0, NULL, 0) == 257 &&
+              codremif_cuts(NULL, 0, lent, 4) == 257 && codremif_cuts(NULL, 0, NULL, 0) == 257 && codremif_must(NULL, 0) == 257,
+          "no text at NULL: number 1, line 1");
+    check(memcmp(lent, (const uint8_t[]){1, 2, 3, 4}, 4) == 0, "no text at NULL: the lent bytes keep their content");
+    check(codremif_judge(text, length, 0, NULL, 0) == 11 && codremif_judge(text, length, 7, NULL, 0) == TWO_40,
+          "no byte lent at NULL: a broken set is refused by 11, a set that holds is judged");
+    check(codremif_cores(text, length, NULL, 0) == 11 && codremif_cuts(text, length, NULL, 0) == 11 &&
+              codremif_cuts(still, still_length, NULL, 0) == 0,
+          "no byte lent at NULL: a list of some sets is refused by 11, one of none is given");
+}
+
+/* The lent bytes hold nothing that was ever written: valgrind tells if an answer depends on them. */
+static void test_unwritten_bytes(void)
+{
+    uint8_t *lent = block(CODREMIF_LIST_BYTES);
+    const uint8_t *text = (const uint8_t *)tremor;
+    uint64_t answer = codremif_judge(text, sizeof tremor - 1, 1, lent, CODREMIF_TRACE_BYTES);
+    check(answer == 2 * 65536 && lent[0] == 0 && lent[1] == 5, "bytes that were never written take a trace");
+    answer = codremif_cores(text, sizeof tremor - 1, lent + 2, CODREMIF_LIST_BYTES - 2);
+    check(answer == 2 * 65536 && lent[2] == 4 && lent[3] == 0, "bytes that were never written take a list");
+    free(lent);
+}
+
+static void test_pairs(void)
+{
+    struct model model;
+    uint8_t sets[512];
+    model_pairs(&model);
+    struct text text = text_of(model.text, model.length);
+    int good = codremif_cores(text.bytes, text.length, sets, 512) == 256 * 65536;
+    for (size_t i = 0; i < 256; i++) {
+        uint32_t expected = 0;
+        for (unsigned k = 0; k < 8; k++)
+            expected |= (i >> k & 1 ? 2u : 1u) << 2 * k;
+        good = good && codremif_set_at(sets, i) == expected;
+    }
+    check(good, "eight pairs: the 256 cores, by number");
+    good = codremif_cuts(text.bytes, text.length, sets, 512) == 8 * 65536;
+    for (size_t k = 0; k < 8; k++)
+        good = good && codremif_set_at(sets, k) == 3u << 2 * k;
+    check(good, "eight pairs: the cuts are the pairs");
+    check(judged(text, 0xFFFF ^ 0xC00, 2, 2 * 65536, (const uint8_t[]){0, 13}, 2), "eight pairs: without the sixth the trace is 0, 13");
+    check(listed(codremif_cores, text, 511, 11, NULL, 0), "eight pairs: 511 bytes are refused by 11");
+    check(codremif_must(text.bytes, text.length) == 0, "eight pairs: MUST is 0");
+    free(text.bytes);
+}
+
+/* Whether the vectors of a set are seven that span seven bits: each, freed of those before it, leaves something. */
+static int is_basis(uint32_t set)
+{
+    unsigned found = 0, spanning[16];
+    for (unsigned i = 0; i < 16; i++) {
+        unsigned rest = model_vectors[i];
+        if (!(set >> i & 1))
+            continue;
+        for (unsigned j = 0; j < found; j++)
+            if ((rest ^ spanning[j]) < rest)
+                rest ^= spanning[j];
+        if (rest == 0)
+            return 0;
+        spanning[found++] = rest;
+    }
+    return found == 7;
+}
+
+static void test_bases(void)
+{
+    static uint8_t sets[CODREMIF_LIST_BYTES];
+    struct model model;
+    model_bases(&model);
+    size_t count = codremif_count(codremif_cores((const uint8_t *)model.text, model.length, sets, sizeof sets));
+    size_t place = 0;
+    int good = 1;
+    for (uint32_t set = 0; set < 65536; set++)
+        if (is_basis(set)) {
+            good = good && place < count && codremif_set_at(sets, place) == set;
+            place++;
+        }
+    check(good && place == count && count > 5000, "seven bits and 16 vectors: the cores are the bases, by number");
+}
+
+struct answers {
+    uint64_t judge, cores, cuts, must;
+    uint8_t trace[CODREMIF_TRACE_BYTES], core_sets[CODREMIF_LIST_BYTES], cut_sets[CODREMIF_LIST_BYTES];
+};
+
+static void ask_all(const struct model *model, struct answers *answers)
+{
+    const uint8_t *text = (const uint8_t *)model->text;
+    memset(answers, 0, sizeof *answers);
+    answers->judge = codremif_judge(text, model->length, 2, answers->trace, sizeof answers->trace);
+    answers->cores = codremif_cores(text, model->length, answers->core_sets, sizeof answers->core_sets);
+    answers->cuts = codremif_cuts(text, model->length, answers->cut_sets, sizeof answers->cut_sets);
+    answers->must = codremif_must(text, model->length);
+}
+
+#define MODELS 3
+#define THREADS 4
+#define ROUNDS 20
+
+static struct model shared_models[MODELS];
+static struct answers alone[MODELS];
+
+/* Asks the shared models again and again, each thread beginning with another, and says whether the answers are those that were given alone. */
+static void *ask_beside_others(void *first)
+{
+    struct answers *answers = block(sizeof *answers);
+    int good = 1;
+    for (size_t round = 0; round < ROUNDS; round++) {
+        size_t i = (*(size_t *)first + round) % MODELS;
+        ask_all(&shared_models[i], answers);
+        good = good && memcmp(answers, &alone[i], sizeof *answers) == 0;
+    }
+    free(answers);
+    return good ? first : NULL;
+}
+
+static void test_threads(void)
+{
+    pthread_t threads[THREADS];
+    size_t first[THREADS];
+    int good = 1;
+    model_text(&shared_models[0], tremor);
+    model_text(&shared_models[1], chain);
+    model_pairs(&shared_models[2]);
+    for (size_t i = 0; i < MODELS; i++)
+        ask_all(&shared_models[i], &alone[i]);
+    for (size_t i = 0; i < THREADS; i++) {
+        first[i] = i;
+        if (pthread_create(&threads[i], NULL, ask_beside_others, &first[i]) != 0)
+            abort();
+    }
+    for (size_t i = 0; i < THREADS; i++) {
+        void *result;
+        pthread_join(threads[i], &result);
+        good = good && result != NULL;
+    }
+    check(good, "threads at once on the same texts get the answers that one gets alone");
+}
+
+int main(void)
+{
+    test_unpacking();
+    test_refusals();
+    test_constants();
+    test_tremor();
+    test_other_models();
+    test_refused_texts();
+    test_null();
+    test_unwritten_bytes();
+    test_pairs();
+    test_bases();
+    test_threads();
+    return failures != 0;
+}

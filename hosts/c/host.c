@@ -1,0 +1,160 @@
+/*
+ * A small C host: host MODEL-FILE [SET]
+ *
+ * Reads a model file, judges the set of rules (the full set if none is given) and prints the verdict, the trace if it is broken, MUST, the
+ * cores and the cuts, each set as its number and its names. Exit status: 0 answered, 1 refused, 2 the host could not ask.
+ */
+#include <errno.h>
+#include <stdio.h>
+#include <stdlib.h>
+#include <string.h>
+
+#include "codremif.h"
+
+/* As many bytes as the report reads; no legal model has more than CODREMIF_TEXT_BYTES. */
+#define READ_BYTES 2048
+
+struct text {
+    uint8_t bytes[READ_BYTES];
+    size_t length;
+};
+
+typedef uint64_t (*list_call)(const uint8_t *, size_t, uint8_t *, size_t);
+
+static int read_text(const char *path, struct text *text)
+{
+    FILE *file = fopen(path, "rb");
+    if (file == NULL)
+        return 0;
+    text->length = fread(text->bytes, 1, sizeof text->bytes, file);
+    int good = !ferror(file);
+    fclose(file);
+    return good;
+}
+
+/* The place after the line that begins at a place. */
+static size_t next_line(const struct text *text, size_t place)
+{
+    while (text->bytes[place] != '\n')
+        place++;
+    return place + 1;
+}
+
+/* The place of the first rule line. The text is accepted, so four lines stand before it. */
+static size_t first_rule(const struct text *text)
+{
+    size_t place = 0;
+    for (int line = 1; line <= 4; line++)
+        place = next_line(text, place);
+    return place;
+}
+
+/* The full set. In an accepted text every line from the fifth on is a rule. */
+static uint32_t full_set(const struct text *text)
+{
+    uint32_t end = 1;
+    for (size_t place = first_rule(text); place < text->length; place = next_line(text, place))
+        end *= 2;
+    return end - 1;
+}
+
+/* A set as its number and its names in the model's order, with commas; the empty set is `-`. */
+static void print_set(const char *key, const struct text *text, uint32_t set)
+{
+    printf("%s=%lu ", key, (unsigned long)set);
+    if (set == 0)
+        printf("-");
+    const char *comma = "";
+    for (size_t place = first_rule(text); set != 0; place = next_line(text, place)) {
+        if (set % 2 == 1) {
+            const char *name = (const char *)text->bytes + place + strlen("rule=");
+            printf("%s%.*s", comma, (int)strcspn(name, ":"), name);
+            comma = ",";
+        }
+        set /= 2;
+    }
+    printf("\n");
+}
+
+/* Whether the call was accepted; if not, says why not. */
+static int accepted(uint64_t answer)
+{
+    unsigned number = codremif_number(answer);
+    if (number == CODREMIF_ACCEPTED)
+        return 1;
+    fprintf(stderr, "refused=%u line=%u: %s\n", number, codremif_line(answer), codremif_words(number));
+    return 0;
+}
+
+static int show_verdict(const struct text *text, uint32_t set)
+{
+    uint8_t trace[CODREMIF_TRACE_BYTES];
+    uint64_t answer = codremif_judge(text->bytes, text->length, set, trace, sizeof trace);
+    if (!accepted(answer))
+        return 0;
+    print_set("set", text, set);
+    printf("verdict=%s\n", codremif_holds(answer) ? "holds" : "broken");
+    for (size_t i = 0; i < codremif_length(answer); i++)
+        printf("state=%u\n", trace[i]);
+    return 1;
+}
+
+static int show_must(const struct text *text)
+{
+    uint64_t answer = codremif_must(text->bytes, text->length);
+    if (!accepted(answer))
+        return 0;
+    print_set("must", text, codremif_set(answer));
+    return 1;
+}
+
+static int show_list(const char *key, list_call call, const struct text *text)
+{
+    uint8_t sets[CODREMIF_LIST_BYTES];
+    uint64_t answer = call(text->bytes, text->length, sets, sizeof sets);
+    if (!accepted(answer))
+        return 0;
+    printf("%ss=%lu\n", key, (unsigned long)codremif_count(answer));
+    for (size_t i = 0; i < codremif_count(answer); i++)
+        print_set(key, text, codremif_set_at(sets, i));
+    return 1;
+}
+
+/* Whether a word is a set's number, base ten. A set that the model does not have is the library's to refuse. */
+static int read_set(const char *word, uint32_t *set)
+{
+    char *end;
+    if (word[0] < '0' || word[0] > '9')
+        return 0;
+    errno = 0;
+    unsigned long value = strtoul(word, &end, 10);
+    *set = (uint32_t)value;
+    return errno == 0 && *end == '\0' && value <= UINT32_MAX;
+}
+
+int main(int argc, char **argv)
+{
+    struct text text;
+    uint32_t set = 0;
+    if (argc != 2 && argc != 3) {
+        fprintf(stderr, "usage: host MODEL-FILE [SET]\n");
+        return 2;
+    }
+    if (!read_text(argv[1], &text)) {
+        fprintf(stderr, "host: %s cannot be read\n", argv[1]);
+        return 2;
+    }
+    if (argc == 3 && !read_set(argv[2], &set)) {
+        fprintf(stderr, "host: %s is not a set's number\n", argv[2]);
+        return 2;
+    }
+    /* The full set is read off the lines, so the text has to be accepted first: MUST lends nothing and says so. */
+    if (!accepted(codremif_must(text.bytes, text.length)))
+        return 1;
+    if (argc == 2)
+        set = full_set(&text);
+    if (!show_verdict(&text, set) || !show_must(&text) || !show_list("core", codremif_cores, &text) ||
+        !show_list("cut", codremif_cuts, &text))
+        return 1;
+    return fflush(stdout) == 0 ? 0 : 2;
+}

@@ -1,0 +1,199 @@
+/*
+ * Measures the stack that each call needs, and holds the header's statements to it. Each call runs on a thread whose stack is a painted block;
+ * the deepest byte that has lost its paint tells the need. The models are the largest and the deepest, accepted and refused.
+ * Without valgrind: to it, bytes below the stack pointer are nobody's to read.
+ */
+#define _POSIX_C_SOURCE 200809L
+#include <pthread.h>
+#include <stdio.h>
+#include <stdlib.h>
+#include <string.h>
+
+#include "codremif.h"
+#include "models.h"
+
+#define BLOCK_BYTES ((size_t)4 << 20)
+#define PAGE_BYTES 4096
+#define PAINT 0xA5
+#define ROUND_BYTES 65536
+
+enum call { JUDGE, CORES, CUTS, MUST, CALLS };
+
+static const struct {
+    const char *name;
+    size_t stated;
+} calls[CALLS] = {
+    {"codremif_judge", CODREMIF_JUDGE_STACK_BYTES},
+    {"codremif_cores", CODREMIF_CORES_STACK_BYTES},
+    {"codremif_cuts", CODREMIF_CUTS_STACK_BYTES},
+    {"codremif_must", CODREMIF_MUST_STACK_BYTES},
+};
+
+static size_t most[CALLS];
+static size_t widest_gap;
+static int as_meant = 1;
+static int failures;
+
+/* One call on a painted stack, and what it left of the paint. */
+struct run {
+    const struct model *model;
+    enum call call;
+    uint32_t set;
+    size_t lent_length;
+    uint8_t *lent;
+    uint8_t *stack;
+    uint64_t answer;
+    size_t need;
+    size_t gap;
+};
+
+static void check(int good, const char *what)
+{
+    printf("%s %s\n", good ? "ok" : "FAILED", what);
+    failures += !good;
+}
+
+static uint64_t ask(const struct run *run)
+{
+    const uint8_t *text = (const uint8_t *)run->model->text;
+    size_t length = run->model->length;
+    switch (run->call) {
+    case JUDGE: return codremif_judge(text, length, run->set, run->lent, run->lent_length);
+    case CORES: return codremif_cores(text, length, run->lent, run->lent_length);
+    case CUTS: return codremif_cuts(text, length, run->lent, run->lent_length);
+    default: return codremif_must(text, length);
+    }
+}
+
+/*
+ * Runs on the painted stack. The need is counted from a byte of this frame, which is a little too much and never too little. The paint is looked
+ * at before the thread ends, since the C library may give a stack's pages back then.
+ */
+static void *run_painted(void *argument)
+{
+    struct run *run = argument;
+    volatile uint8_t here = 0;
+    size_t frame = (size_t)((uintptr_t)&here - (uintptr_t)run->stack);
+    size_t at = 0;
+    run->answer = ask(run);
+    while (at < frame && run->stack[at] == PAINT)
+        at++;
+    run->need = frame - at;
+    for (size_t gap = 0; at < frame; at++) {
+        gap = run->stack[at] == PAINT ? gap + 1 : 0;
+        run->gap = gap > run->gap ? gap : run->gap;
+    }
+    return NULL;
+}
+
+static void run_on(struct run *run)
+{
+    pthread_attr_t attributes;
+    pthread_t thread;
+    memset(run->stack, PAINT, BLOCK_BYTES);
+    if (pthread_attr_init(&attributes) != 0 || pthread_attr_setstack(&attributes, run->stack, BLOCK_BYTES) != 0 ||
+        pthread_create(&thread, &attributes, run_painted, run) != 0 || pthread_join(thread, NULL) != 0) {
+        fprintf(stderr, "stack: no thread on a stack of its own\n");
+        exit(2);
+    }
+    pthread_attr_destroy(&attributes);
+}
+
+static uint64_t measure(const struct model *model, enum call call, uint32_t set, size_t lent_length)
+{
+    static uint8_t lent[CODREMIF_LIST_BYTES];
+    static void *stack;
+    if (stack == NULL && posix_memalign(&stack, PAGE_BYTES, BLOCK_BYTES) != 0)
+        exit(2);
+    struct run run = {model, call, set, lent_length, lent, stack, 0, 0, 0};
+    run_on(&run);
+    most[call] = run.need > most[call] ? run.need : most[call];
+    widest_gap = run.gap > widest_gap ? run.gap : widest_gap;
+    return run.answer;
+}
+
+/*
+ * Every call on a model: sets that hold and sets that are broken, and one that no model has; enough lent bytes, and too few. The model is
+ * meant to be refused by the number, so that a slip in a text does not pass for a large model.
+ */
+static void measure_all(const struct model *model, unsigned number)
+{
+    const uint32_t sets[] = {0, 1, 0x5555, 0x7FFF, 0xFFFF, 0x10000};
+    for (size_t i = 0; i < sizeof sets / sizeof sets[0]; i++)
+        measure(model, JUDGE, sets[i], CODREMIF_TRACE_BYTES);
+    measure(model, JUDGE, 0, 0);
+    for (enum call call = CORES; call <= CUTS; call++) {
+        measure(model, call, 0, CODREMIF_LIST_BYTES);
+        measure(model, call, 0, 0);
+    }
+    as_meant = codremif_number(measure(model, MUST, 0, 0)) == number && as_meant;
+}
+
+#define TIMES_4(x) x x x x
+#define TIMES_16(x) TIMES_4(x) TIMES_4(x) TIMES_4(x) TIMES_4(x)
+#define TIMES_31(x) TIMES_16(x) TIMES_4(x) TIMES_4(x) TIMES_4(x) x x x
+#define TIMES_63(x) TIMES_31(x) TIMES_31(x) x
+
+static void measure_accepted(void)
+{
+    struct model model;
+    model_wide(&model, TIMES_63("!") "a", TIMES_63("!") "#");
+    measure_all(&model, CODREMIF_ACCEPTED);
+    model_wide(&model, TIMES_31("|a") "!b", TIMES_31("&#") "#");
+    measure_all(&model, CODREMIF_ACCEPTED);
+    model_wide(&model, TIMES_31("=") TIMES_31("c") "c", TIMES_31(">") TIMES_31("#") "#");
+    measure_all(&model, CODREMIF_ACCEPTED);
+    model_wide(&model, TIMES_16("!|a") TIMES_4("!!") "b", TIMES_16("!|#") TIMES_4("!!!") "#");
+    measure_all(&model, CODREMIF_ACCEPTED);
+    model_pairs(&model);
+    measure_all(&model, CODREMIF_ACCEPTED);
+    model_bases(&model);
+    measure_all(&model, CODREMIF_ACCEPTED);
+    model_text(&model, "vars=1\nrules=1\ninit=1\nprop=1\nrule=any:1\n");
+    measure_all(&model, CODREMIF_ACCEPTED);
+}
+
+static void measure_refused(void)
+{
+    struct model model;
+    model_wide(&model, "a", TIMES_63("!") "!");
+    measure_all(&model, CODREMIF_NOT_ONE);
+    model_wide(&model, "a", TIMES_63("&") "a");
+    measure_all(&model, CODREMIF_NOT_ONE);
+    model_wide(&model, "a", TIMES_63("!") "!a");
+    measure_all(&model, CODREMIF_EXPRESSION_LENGTH);
+    model_wide(&model, "a", TIMES_31("&") TIMES_31("#") "##");
+    measure_all(&model, CODREMIF_NOT_ONE);
+    model_wide(&model, TIMES_63(TIMES_4("!")) "a", "1");
+    measure_all(&model, CODREMIF_EXPRESSION_LENGTH);
+    model_text(&model, "vars=7\nrules=16\ninit=" TIMES_31(TIMES_31("&a")));
+    measure_all(&model, CODREMIF_LINE_DUE);
+    model_wide(&model, "a", TIMES_63("!") "#");
+    model.text[model.length++] = '\n';
+    measure_all(&model, CODREMIF_BYTES_FOLLOW);
+    model_text(&model, "");
+    measure_all(&model, CODREMIF_LINE_DUE);
+}
+
+/* Stated enough, not more than four times too much, and the painted block was larger by far. */
+static void hold_to(const char *name, size_t stated, size_t need)
+{
+    char what[160];
+    snprintf(what, sizeof what, "%s needs %zu bytes of stack, and the header states %zu", name, need, stated);
+    check(need < BLOCK_BYTES / 2 && need <= stated && stated <= 4 * need && stated % ROUND_BYTES == 0, what);
+}
+
+int main(void)
+{
+    size_t all = 0;
+    measure_accepted();
+    measure_refused();
+    for (enum call call = JUDGE; call < CALLS; call++) {
+        hold_to(calls[call].name, calls[call].stated, most[call]);
+        all = calls[call].stated > all ? calls[call].stated : all;
+    }
+    check(all == CODREMIF_STACK_BYTES, "CODREMIF_STACK_BYTES is the most of them");
+    check(widest_gap < PAGE_BYTES, "no page of the stack is passed over");
+    check(as_meant, "each model is accepted or refused as it is meant to be");
+    return failures != 0;
+}

@@ -1,0 +1,210 @@
+//! Times the four calls of the library next to the plain search, on fixed models.
+//!
+//! `bench [FOLDER]`: with a folder, its *.txt models come first. The generated models are the same in every run. Each
+//! time is the median of several runs, and each answer of the library is compared with that of the plain search.
+
+#![deny(warnings)]
+
+use std::path::Path;
+use std::time::{Duration, Instant};
+
+use codremif_host::calls;
+use codremif_host::plain::answers::{judge, write_list};
+use codremif_host::plain::sets::{must, Verdicts};
+use codremif_host::plain::system::TransitionSystem;
+use codremif_host::plain::text::{self, Model};
+use codremif_host::random::models::{full_counter, model_of, Kind};
+use codremif_host::random::written::{join, later, now, pad, Written};
+use codremif_host::random::Random;
+
+/// Runs go on until this time is spent, at least `FEWEST_RUNS` and at most `MOST_RUNS`.
+const TIME_FOR_RUNS: Duration = Duration::from_millis(60);
+const FEWEST_RUNS: usize = 3;
+const MOST_RUNS: usize = 25;
+
+/// Enough for the trace and for every list: no list of sets without a part of another has more than 12,870 of them.
+const LENT: usize = 2 * 12_870;
+
+fn main() {
+    let folder = std::env::args().nth(1);
+    if let Some(folder) = &folder {
+        table("Sample models", sample_models(Path::new(folder)));
+    }
+    table("Largest models: 7 bits, 16 rules", largest_models());
+    table("Growing N, 16 rules", (1..=7).map(|bits| growing(bits, 16)).collect());
+    table("Growing R, 7 bits", (1..=16).map(|rules| growing(7, rules)).collect());
+    println!(
+        "Times are medians in milliseconds; 'ratio' is the plain search's time divided by the library's."
+    );
+    println!("Judged is the full set. All answers of the two sides were alike.");
+}
+
+struct Case {
+    name: String,
+    text: Vec<u8>,
+}
+
+fn sample_models(folder: &Path) -> Vec<Case> {
+    let entries = std::fs::read_dir(folder).unwrap_or_else(|error| panic!("{}: {error}", folder.display()));
+    let mut paths: Vec<_> = entries.map(|entry| entry.expect("a folder entry").path()).collect();
+    paths.retain(|path| path.extension() == Some("txt".as_ref()));
+    paths.sort();
+    let mut cases = Vec::new();
+    for path in paths {
+        let name = path.file_stem().expect("a file name").to_string_lossy().into_owned();
+        let text = std::fs::read(&path).expect("a readable model");
+        match text::read(&text) {
+            Ok(_) => cases.push(Case { name, text }),
+            Err(refused) => println!("{name}: left out, {refused}"),
+        }
+    }
+    cases
+}
+
+fn largest_models() -> Vec<Case> {
+    let of = |name: &str, kind, seed| Case {
+        name: name.to_string(),
+        text: model_of(&mut Random::new(seed), kind, 7, 16).text(),
+    };
+    vec![
+        of("clauses, few cores", Kind::Clauses, 2),
+        of("clauses, more cores", Kind::Clauses, 13),
+        of("wild", Kind::Wild, 1),
+        of("alternatives, dozens", Kind::Alternatives, 12),
+        of("alternatives, hundreds", Kind::Alternatives, 8),
+        of("joint, many cuts", Kind::Joint, 16),
+        of("dense, dozens", Kind::Dense, 6),
+        of("dense, hundreds", Kind::Dense, 2),
+        of("counter and others", Kind::Counter, 7),
+        longest_text(),
+        Case { name: "counter, trace of 128".to_string(), text: full_counter(7).text() },
+    ]
+}
+
+/// A dense model whose expressions all have 64 bytes.
+fn longest_text() -> Case {
+    let random = &mut Random::new(8);
+    let mut written = model_of(random, Kind::Dense, 7, 16);
+    for place in 0..16 {
+        written.rules[place].1 = pad(random, &written.rules[place].1, 64);
+    }
+    written.init = pad(random, &written.init, 64);
+    written.prop = pad(random, &written.prop, 64);
+    Case { name: "dense, 64-byte rules".to_string(), text: written.text() }
+}
+
+/// Bits that must stay 0, up to four of them, and rules that keep one of them as it is, in turn: the form is the same
+/// for every N and R, so that only the size grows.
+fn growing(bits: usize, rules: usize) -> Case {
+    let kept = bits.min(rules).min(4);
+    let none_set = format!("!{}", join('|', &(0..kept).map(now).collect::<Vec<_>>()));
+    let keeper = |bit| format!(">{}{}", later(bit), now(bit));
+    let rules_written = (0..rules).map(|rule| (format!("r{rule}"), keeper(rule % kept))).collect();
+    let written = Written { bits, init: none_set.clone(), prop: none_set, rules: rules_written };
+    Case { name: format!("N {bits}, R {rules}"), text: written.text() }
+}
+
+fn table(title: &str, cases: Vec<Case>) {
+    println!("{title}");
+    println!(
+        "{:<22} {:>1} {:>2} {:>5} {:>5} |{} |{} |{} |{}",
+        "model",
+        "N",
+        "R",
+        "cores",
+        "cuts",
+        heading("judge"),
+        heading("cores"),
+        heading("cuts"),
+        heading("MUST")
+    );
+    for case in cases {
+        println!("{}", row(&case));
+    }
+    println!();
+}
+
+fn heading(call: &str) -> String {
+    format!(" {:>9} {:>9} {:>7}", call, "plain", "ratio")
+}
+
+fn row(case: &Case) -> String {
+    let text = &case.text[..];
+    let model = text::read(text).expect("an accepted model");
+    let full_set = u32::from(u16::MAX >> (16 - model.rules.len()));
+    let judged = timed_with_bytes(
+        |lent| calls::judge(text, full_set, lent),
+        |lent| judge(&TransitionSystem::of(&read(text)), full_set, lent),
+    );
+    let cores = timed_with_bytes(
+        |lent| calls::cores(text, lent),
+        |lent| write_list(&Verdicts::of(&TransitionSystem::of(&read(text))).cores(), lent),
+    );
+    let cuts = timed_with_bytes(
+        |lent| calls::cuts(text, lent),
+        |lent| write_list(&Verdicts::of(&TransitionSystem::of(&read(text))).cuts(), lent),
+    );
+    let must =
+        timed(|| calls::must(text), || Ok(must(&Verdicts::of(&TransitionSystem::of(&read(text))).cores())));
+    format!(
+        "{:<22} {:>1} {:>2} {:>5} {:>5} |{judged} |{cores} |{cuts} |{must}",
+        case.name,
+        model.bits,
+        model.rules.len(),
+        cores.answer.expect("enough bytes lent"),
+        cuts.answer.expect("enough bytes lent")
+    )
+}
+
+fn read(text: &[u8]) -> Model {
+    text::read(text).expect("an accepted model")
+}
+
+/// One answer and how long each side took for it.
+struct Timed<T> {
+    answer: T,
+    library: Duration,
+    plain: Duration,
+}
+
+impl<T> std::fmt::Display for Timed<T> {
+    fn fmt(&self, out: &mut std::fmt::Formatter) -> std::fmt::Result {
+        let milliseconds = |time: Duration| time.as_secs_f64() * 1000.0;
+        let (library, plain) = (milliseconds(self.library), milliseconds(self.plain));
+        write!(out, " {library:>9.3} {plain:>9.3} {:>7.2}", plain / library)
+    }
+}
+
+fn timed<T: PartialEq + std::fmt::Debug>(library: impl FnMut() -> T, plain: impl FnMut() -> T) -> Timed<T> {
+    let (answer, library) = median(library);
+    let (expected, plain) = median(plain);
+    assert_eq!(answer, expected, "library left, plain search right");
+    Timed { answer, library, plain }
+}
+
+/// The same with lent bytes, which must be alike afterwards.
+fn timed_with_bytes<T: PartialEq + std::fmt::Debug>(
+    mut library: impl FnMut(&mut [u8]) -> T,
+    mut plain: impl FnMut(&mut [u8]) -> T,
+) -> Timed<T> {
+    let (mut theirs, mut ours) = (vec![0; LENT], vec![0; LENT]);
+    let timed = timed(|| library(&mut theirs), || plain(&mut ours));
+    assert_eq!(theirs, ours, "lent bytes, library left, plain search right");
+    timed
+}
+
+/// The answer, and the median time of the runs.
+fn median<T>(mut run: impl FnMut() -> T) -> (T, Duration) {
+    let begun = Instant::now();
+    let mut times = Vec::new();
+    loop {
+        let start = Instant::now();
+        let answer = run();
+        times.push(start.elapsed());
+        let enough = times.len() >= FEWEST_RUNS && begun.elapsed() >= TIME_FOR_RUNS;
+        if enough || times.len() == MOST_RUNS {
+            times.sort();
+            return (answer, times[times.len() / 2]);
+        }
+    }
+}

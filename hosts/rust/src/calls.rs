@@ -1,0 +1,87 @@
+//! The four calls of libcodremif.a.
+
+use crate::answer::{Reason, Refused, Verdict};
+
+/// The declarations as a C host has them.
+mod declared {
+    extern "C" {
+        pub fn codremif_judge(
+            text: *const u8,
+            text_len: usize,
+            set: u32,
+            trace: *mut u8,
+            trace_len: usize,
+        ) -> u64;
+        pub fn codremif_cores(text: *const u8, text_len: usize, sets: *mut u8, sets_len: usize) -> u64;
+        pub fn codremif_cuts(text: *const u8, text_len: usize, sets: *mut u8, sets_len: usize) -> u64;
+        pub fn codremif_must(text: *const u8, text_len: usize) -> u64;
+    }
+}
+
+/// Judges `set`; a broken set's trace is written to the beginning of `trace`, one byte per state.
+pub fn judge(text: &[u8], set: u32, trace: &mut [u8]) -> Result<Verdict, Refused> {
+    // SAFETY: both slices are memory of the length given, and a `&mut` slice overlaps nothing else.
+    let packed =
+        unsafe { declared::codremif_judge(text.as_ptr(), text.len(), set, trace.as_mut_ptr(), trace.len()) };
+    let accepted = unpack(packed)?;
+    if accepted.holds {
+        assert_eq!(accepted.amount, 0, "a set that holds has a trace: {packed:#x}");
+        return Ok(Verdict::Holds);
+    }
+    assert_ne!(accepted.amount, 0, "a broken set has no trace: {packed:#x}");
+    Ok(Verdict::Broken { length: accepted.amount })
+}
+
+/// Writes the cores to the beginning of `sets`, two bytes each, and gives their number.
+pub fn cores(text: &[u8], sets: &mut [u8]) -> Result<usize, Refused> {
+    // SAFETY: as in `judge`.
+    let packed =
+        unsafe { declared::codremif_cores(text.as_ptr(), text.len(), sets.as_mut_ptr(), sets.len()) };
+    amount_alone(packed)
+}
+
+/// Writes the cuts to the beginning of `sets`, two bytes each, and gives their number.
+pub fn cuts(text: &[u8], sets: &mut [u8]) -> Result<usize, Refused> {
+    // SAFETY: as in `judge`.
+    let packed = unsafe { declared::codremif_cuts(text.as_ptr(), text.len(), sets.as_mut_ptr(), sets.len()) };
+    amount_alone(packed)
+}
+
+/// Gives the set MUST.
+pub fn must(text: &[u8]) -> Result<u16, Refused> {
+    // SAFETY: as in `judge`.
+    let packed = unsafe { declared::codremif_must(text.as_ptr(), text.len()) };
+    let set = amount_alone(packed)?;
+    Ok(u16::try_from(set).expect("MUST is no set of 16 rules"))
+}
+
+/// The parts of an accepted call's answer.
+struct Accepted {
+    amount: usize,
+    holds: bool,
+}
+
+/// Takes apart: the number, plus 256 times the line, plus 65,536 times the length, count or set, plus 2^40 for a
+/// verdict that holds. It panics where a part is not 0 that document 01 says is 0, so that no test can miss it.
+fn unpack(packed: u64) -> Result<Accepted, Refused> {
+    let number = (packed % 256) as u8;
+    let line = (packed / 256 % 256) as u8;
+    let amount = (packed / 65_536 % (1 << 24)) as usize;
+    let above = packed >> 40;
+    assert!(above <= 1, "no answer of document 01: {packed:#x}");
+    let holds = above == 1;
+    if number == 0 {
+        assert_eq!(line, 0, "accepted, and yet a line: {packed:#x}");
+        return Ok(Accepted { amount, holds });
+    }
+    assert!(amount == 0 && !holds, "refused, and yet an answer: {packed:#x}");
+    let reason = Reason::from_number(number).expect("a number that document 01 lists");
+    Err(Refused::new(reason, line))
+}
+
+/// For the calls that give no verdict.
+fn amount_alone(packed: u64) -> Result<usize, Refused> {
+    let accepted = unpack(packed)?;
+    assert!(!accepted.holds, "a verdict where none is due: {packed:#x}");
+    Ok(accepted.amount)
+}

@@ -1,0 +1,21 @@
+//! A Rust host of libcodremif.a, and the tests that hold the library to document 01.
+//!
+//! * [`calls`] declares the four C functions and wraps them safely.
+//! * [`plain`] answers the same four calls by a plain search, written from document 01 alone. It shares no code and no
+//!   table with the library: it evaluates every rule for every pair of states, judges every rule set, and takes the
+//!   cores and cuts by their definition.
+//! * [`program`] runs the report program.
+//! * [`random`] makes models and damaged texts from a seed.
+//! * [`compare`] asks both sides the same question over equally prefilled, guarded bytes and panics where they differ.
+//!
+//! [`answer`] has the types that both sides answer with.
+
+#![deny(warnings)]
+
+pub mod answer;
+pub mod calls;
+pub mod compare;
+pub mod lent;
+pub mod plain;
+pub mod program;
+pub mod random;

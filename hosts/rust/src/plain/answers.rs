@@ -1,0 +1,73 @@
+//! The four calls, answered by the plain search.
+
+use super::sets::{self, Verdicts};
+use super::system::TransitionSystem;
+use super::text::{self, Model};
+use super::trace::trace;
+use crate::answer::{Reason, Refused, Verdict};
+
+/// An accepted model with everything that can be asked of it.
+pub struct Answers {
+    pub system: TransitionSystem,
+    pub verdicts: Verdicts,
+    pub cores: Vec<u16>,
+    pub cuts: Vec<u16>,
+    pub must: u16,
+}
+
+impl Answers {
+    pub fn of(text: &[u8]) -> Result<Answers, Refused> {
+        Ok(Answers::of_model(&text::read(text)?))
+    }
+
+    pub fn of_model(model: &Model) -> Answers {
+        let system = TransitionSystem::of(model);
+        let verdicts = Verdicts::of(&system);
+        let cores = verdicts.cores();
+        let cuts = verdicts.cuts();
+        let must = sets::must(&cores);
+        Answers { system, verdicts, cores, cuts, must }
+    }
+
+    pub fn judge(&self, set: u32, lent: &mut [u8]) -> Result<Verdict, Refused> {
+        judge(&self.system, set, lent)
+    }
+
+    pub fn list_cores(&self, lent: &mut [u8]) -> Result<usize, Refused> {
+        write_list(&self.cores, lent)
+    }
+
+    pub fn list_cuts(&self, lent: &mut [u8]) -> Result<usize, Refused> {
+        write_list(&self.cuts, lent)
+    }
+}
+
+/// Judges one set of a system and writes its trace, one byte per state.
+pub fn judge(system: &TransitionSystem, set: u32, lent: &mut [u8]) -> Result<Verdict, Refused> {
+    if set >= 1 << system.rules {
+        return Err(Refused::new(Reason::SetTooLarge, 0));
+    }
+    match trace(system, set as u16) {
+        None => Ok(Verdict::Holds),
+        Some(run) => {
+            write_bytes(&run, lent)?;
+            Ok(Verdict::Broken { length: run.len() })
+        }
+    }
+}
+
+/// Writes a list, two bytes a set, low byte first.
+pub fn write_list(list: &[u16], lent: &mut [u8]) -> Result<usize, Refused> {
+    let bytes: Vec<u8> = list.iter().flat_map(|set| [(set % 256) as u8, (set / 256) as u8]).collect();
+    write_bytes(&bytes, lent)?;
+    Ok(list.len())
+}
+
+/// Bytes past the last one keep their content; too few lent bytes all keep theirs.
+fn write_bytes(bytes: &[u8], lent: &mut [u8]) -> Result<(), Refused> {
+    if lent.len() < bytes.len() {
+        return Err(Refused::new(Reason::LentTooShort, 0));
+    }
+    lent[..bytes.len()].copy_from_slice(bytes);
+    Ok(())
+}

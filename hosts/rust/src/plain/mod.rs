@@ -1,0 +1,17 @@
+//! The plain search: document 01 word by word, with no thought for speed beyond a table of pair masks.
+//!
+//! * [`expression`]: what an expression is, how it is read, its value.
+//! * [`text`]: how a model text is read, and the numbers 1 to 9.
+//! * [`system`]: the transition system of a model: start states, bad states, steps, reached states.
+//! * [`trace`]: the shortest run to a bad state, the first of its length.
+//! * [`sets`]: every rule set judged; cores, cuts and MUST by definition.
+//! * [`answers`]: the four calls.
+//! * [`report`]: the report, as bytes.
+
+pub mod answers;
+pub mod expression;
+pub mod report;
+pub mod sets;
+pub mod system;
+pub mod text;
+pub mod trace;

@@ -1,0 +1,49 @@
+//! The report, as document 01's section "The report" has it.
+
+use super::answers::Answers;
+use super::text::{self, Model};
+use super::trace::trace;
+
+/// No more bytes of the input than these are judged.
+pub const JUDGED: usize = 2048;
+
+/// The whole report on an input: every byte that the report program prints.
+pub fn report(input: &[u8]) -> Vec<u8> {
+    let judged = &input[..input.len().min(JUDGED)];
+    let lines = match text::read(judged) {
+        Ok(model) => of_accepted(&model),
+        Err(refused) => {
+            vec![format!("refused={}", refused.reason.number()), format!("line={}", refused.line)]
+        }
+    };
+    lines.iter().flat_map(|line| line.bytes().chain([10])).collect()
+}
+
+/// The lines, without their ends.
+fn of_accepted(model: &Model) -> Vec<String> {
+    let answers = Answers::of_model(model);
+    let mut lines = Vec::new();
+    match trace(&answers.system, answers.system.full_set()) {
+        None => lines.push("verdict=holds".to_string()),
+        Some(run) => {
+            lines.push("verdict=broken".to_string());
+            lines.extend(run.iter().map(|state| format!("state={state}")));
+        }
+    }
+    lines.push(format!("must={}", names(model, answers.must)));
+    lines.push(format!("cores={}", answers.cores.len()));
+    lines.extend(answers.cores.iter().map(|core| format!("core={}", names(model, *core))));
+    lines.push(format!("cuts={}", answers.cuts.len()));
+    lines.extend(answers.cuts.iter().map(|cut| format!("cut={}", names(model, *cut))));
+    lines
+}
+
+/// A set as names in the model's order with commas; the empty set is `-`.
+fn names(model: &Model, set: u16) -> String {
+    let in_set = model.rules.iter().enumerate().filter(|(place, _)| set >> place & 1 == 1);
+    let names: Vec<_> = in_set.map(|(_, rule)| String::from_utf8_lossy(&rule.name)).collect();
+    if names.is_empty() {
+        return "-".to_string();
+    }
+    names.join(",")
+}

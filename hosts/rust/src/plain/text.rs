@@ -1,0 +1,85 @@
+//! Reading a model text, and the numbers 1 to 9.
+
+use super::expression::{self, Expression, Place};
+use crate::answer::{Reason, Refused};
+
+#[derive(Clone, Debug, PartialEq, Eq)]
+pub struct Model {
+    pub bits: usize,
+    pub init: Expression,
+    pub prop: Expression,
+    pub rules: Vec<Rule>,
+}
+
+#[derive(Clone, Debug, PartialEq, Eq)]
+pub struct Rule {
+    pub name: Vec<u8>,
+    pub expression: Expression,
+}
+
+/// Reads a model, or gives the first number that fits: line by line, and in the order of the numbers within a line.
+pub fn read(text: &[u8]) -> Result<Model, Refused> {
+    let mut lines = Lines { rest: text, number: 0 };
+    let value = lines.value_due(b"vars=")?;
+    let bits = lines.in_this_line(read_count(value, 7))?;
+    let value = lines.value_due(b"rules=")?;
+    let rule_count = lines.in_this_line(read_count(value, 16))?;
+    let value = lines.value_due(b"init=")?;
+    let init = lines.in_this_line(expression::read(value, bits, Place::InitOrProp))?;
+    let value = lines.value_due(b"prop=")?;
+    let prop = lines.in_this_line(expression::read(value, bits, Place::InitOrProp))?;
+    let mut rules = Vec::new();
+    for _ in 0..rule_count {
+        let value = lines.value_due(b"rule=")?;
+        let rule = lines.in_this_line(read_rule(value, bits, &rules))?;
+        rules.push(rule);
+    }
+    if !lines.rest.is_empty() {
+        return Err(Refused::new(Reason::BytesFollow, lines.number + 1));
+    }
+    Ok(Model { bits, init, prop, rules })
+}
+
+/// The lines not yet read, and the number of the line read last (the first is 1).
+struct Lines<'text> {
+    rest: &'text [u8],
+    number: u8,
+}
+
+impl<'text> Lines<'text> {
+    /// Takes the next line and gives what stands after its key, or refuses it with number 1.
+    fn value_due(&mut self, key: &[u8]) -> Result<&'text [u8], Refused> {
+        self.number += 1;
+        let missing = Refused::new(Reason::LineMissing, self.number);
+        let end = self.rest.iter().position(|byte| *byte == 10).ok_or(missing)?;
+        let line = &self.rest[..end];
+        self.rest = &self.rest[end + 1..];
+        line.strip_prefix(key).ok_or(missing)
+    }
+
+    fn in_this_line<T>(&self, read: Result<T, Reason>) -> Result<T, Refused> {
+        read.map_err(|reason| Refused::new(reason, self.number))
+    }
+}
+
+/// A count is proper if it is written exactly as one of the numbers from 1 to `largest`.
+fn read_count(value: &[u8], largest: usize) -> Result<usize, Reason> {
+    (1..=largest).find(|count| count.to_string().as_bytes() == value).ok_or(Reason::CountImproper)
+}
+
+fn read_rule(value: &[u8], bits: usize, earlier: &[Rule]) -> Result<Rule, Reason> {
+    let colon = value.iter().position(|byte| *byte == b':').ok_or(Reason::NameImproper)?;
+    let name = &value[..colon];
+    if !is_name(name) {
+        return Err(Reason::NameImproper);
+    }
+    if earlier.iter().any(|rule| rule.name == name) {
+        return Err(Reason::NameTaken);
+    }
+    let expression = expression::read(&value[colon + 1..], bits, Place::Rule)?;
+    Ok(Rule { name: name.to_vec(), expression })
+}
+
+fn is_name(name: &[u8]) -> bool {
+    (1..=8).contains(&name.len()) && name.iter().all(|byte| matches!(byte, b'a'..=b'z' | b'0'..=b'9'))
+}

@@ -1,0 +1,95 @@
+//! Models and expressions as they are written.
+
+use super::generator::Random;
+
+/// A model before it is text.
+#[derive(Clone, Debug)]
+pub struct Written {
+    pub bits: usize,
+    pub init: String,
+    pub prop: String,
+    /// Names and expressions.
+    pub rules: Vec<(String, String)>,
+}
+
+impl Written {
+    pub fn text(&self) -> Vec<u8> {
+        let Written { bits, init, prop, rules } = self;
+        let mut text = format!("vars={bits}\nrules={}\ninit={init}\nprop={prop}\n", rules.len());
+        for (name, expression) in rules {
+            text += &format!("rule={name}:{expression}\n");
+        }
+        text.into_bytes()
+    }
+}
+
+pub fn now(bit: usize) -> String {
+    char::from(b'a' + bit as u8).to_string()
+}
+
+pub fn later(bit: usize) -> String {
+    char::from(b'A' + bit as u8).to_string()
+}
+
+/// Joins operands by an operator with two: `&`, a, b, c become `&a&bc`.
+pub fn join(operator: char, operands: &[String]) -> String {
+    let operators = operands[..operands.len() - 1].iter().map(|operand| format!("{operator}{operand}"));
+    operators.collect::<String>() + &operands[operands.len() - 1]
+}
+
+/// An expression of exactly `length` bytes over the first `bits` bits, with capital letters if `in_rule`.
+pub fn expression(random: &mut Random, bits: usize, in_rule: bool, length: usize) -> String {
+    match length {
+        1 => leaf(random, bits, in_rule),
+        2 => format!("!{}", expression(random, bits, in_rule, 1)),
+        _ if random.percent(15) => format!("!{}", expression(random, bits, in_rule, length - 1)),
+        _ => {
+            let operator = random.pick(&['&', '|', '>', '=']);
+            let first = random.between(1, length - 2);
+            let one = expression(random, bits, in_rule, first);
+            let two = expression(random, bits, in_rule, length - 1 - first);
+            format!("{operator}{one}{two}")
+        }
+    }
+}
+
+fn leaf(random: &mut Random, bits: usize, in_rule: bool) -> String {
+    let bit = random.below(bits);
+    match random.below(20) {
+        0 => random.pick(&["0", "1"]).to_string(),
+        1..=10 if in_rule => later(bit),
+        _ => now(bit),
+    }
+}
+
+/// Lengthens an expression to `length` bytes without changing its value, unless one byte alone is missing.
+pub fn pad(random: &mut Random, expression: &str, length: usize) -> String {
+    let mut padded = expression.to_string();
+    while padded.len() + 2 <= length {
+        let odd = (length - padded.len()) % 2 == 1;
+        let wrapper = if odd { "!=0" } else { random.pick(&["!!", "&1", "|0", ">1", "=1"]) };
+        padded.insert_str(0, wrapper);
+    }
+    padded
+}
+
+/// Different proper names, some of which begin like others.
+pub fn names(random: &mut Random, count: usize) -> Vec<String> {
+    let mut names: Vec<String> = Vec::new();
+    while names.len() < count {
+        let candidate = match names.last() {
+            Some(name) if name.len() < 8 && random.percent(20) => {
+                format!("{name}{}", name_byte(random))
+            }
+            _ => (0..random.between(1, 8)).map(|_| name_byte(random)).collect(),
+        };
+        if !names.contains(&candidate) {
+            names.push(candidate);
+        }
+    }
+    names
+}
+
+fn name_byte(random: &mut Random) -> char {
+    char::from(random.pick(b"abcdefghijklmnopqrstuvwxyz0123456789"))
+}

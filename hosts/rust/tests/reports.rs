@@ -1,0 +1,375 @@
+//! The report program against the sample reports and against the plain report, every byte of what it prints.
+
+#![deny(warnings)]
+
+use std::path::{Path, PathBuf};
+use std::time::Duration;
+
+use codremif_host::answer::{Reason, Refused};
+use codremif_host::compare::show;
+use codremif_host::plain::report::report;
+use codremif_host::plain::text;
+use codremif_host::program::Program;
+use codremif_host::random::damage::damaged;
+use codremif_host::random::generator::seed_for;
+use codremif_host::random::models::Kind;
+use codremif_host::random::{models, Random};
+
+const TREMOR: &[u8] = b"vars=3\nrules=3\ninit=!c\nprop=>c&ab\nrule=ra:>CA\nrule=rb:>CB\nrule=vote:>C&AB\n";
+
+/// Tremor's whole report as document 01 prints it.
+const TREMOR_REPORT: &[u8] = b"\
+verdict=holds\n\
+must=-\n\
+cores=2\n\
+core=vote\n\
+core=ra,rb\n\
+cuts=2\n\
+cut=ra,vote\n\
+cut=rb,vote\n";
+
+#[test]
+fn tremor_as_document_01_prints_it() {
+    assert_alike("plain report", &report(TREMOR), TREMOR_REPORT, TREMOR);
+    assert_alike("report program", &Program::found().report(TREMOR), TREMOR_REPORT, TREMOR);
+}
+
+/// Each models/NAME.txt has its report in models/NAME.report.
+#[test]
+fn sample_models() {
+    let program = Program::found();
+    let names = names_in_models("txt");
+    assert_eq!(names, names_in_models("report"), "each model has a report and each report a model");
+    assert!(names.len() >= 13, "{names:?}");
+    for name in &names {
+        let (text, expected) = (sample(name, "txt"), sample(name, "report"));
+        println!("sample models: {name}, {} bytes, report of {} bytes", text.len(), expected.len());
+        assert_alike("plain report", &report(&text), &expected, &text);
+        assert_alike("report program", &program.report(&text), &expected, &text);
+        let from_file = program.report_on_file(&path_of(name, "txt"));
+        assert_alike("report program on a file", &from_file, &expected, &text);
+    }
+}
+
+/// The models that are there for their size keep it.
+#[test]
+fn sizes_of_sample_models() {
+    assert_eq!(sample("largest", "txt").len(), 1420);
+    assert!(sample("largest", "txt").starts_with(b"vars=7\nrules=16\n"));
+    assert!(count_lines("largest", b"core=") >= 2);
+    assert!(count_lines("many_cores", b"core=") >= 24);
+    assert_eq!(count_lines("long_trace", b"state="), 128);
+}
+
+/// Every N with every R once, and many small ones.
+#[test]
+fn random_models() {
+    let mut random = Random::new(seed_for("reports on random models", 20_260_301));
+    let mut seen = Seen::new();
+    for rules in 1..=16 {
+        for bits in 1..=7 {
+            let text = models::model(&mut random, bits, rules).text();
+            seen.compare(&text);
+        }
+    }
+    for turn in 0..600 {
+        let (bits, rules) = (turn % 5 + 1, turn / 5 % 6 + 1);
+        let text = models::model(&mut random, bits, rules).text();
+        seen.compare(&text);
+    }
+    println!("reports on random models: {seen:?}");
+    assert_eq!(seen.accepted, 712);
+    assert!(seen.holds >= 100 && seen.broken >= 100, "{seen:?}");
+    assert!(seen.no_core >= 50 && seen.empty_core >= 50 && seen.many_cores >= 10, "{seen:?}");
+    assert!(seen.must >= 50 && seen.longest_trace >= 16, "{seen:?}");
+}
+
+/// Cores or cuts by the hundred.
+#[test]
+fn long_reports() {
+    let mut random = Random::new(seed_for("long reports", 20_260_303));
+    let mut seen = Seen::new();
+    for turn in 0..30 {
+        let kind = [Kind::Alternatives, Kind::Joint, Kind::Dense][turn % 3];
+        let (bits, rules) = ([3, 5, 6, 5, 4][turn % 5], 16 - turn % 2);
+        let text = models::model_of(&mut random, kind, bits, rules).text();
+        seen.compare(&text);
+    }
+    // Five bits that must stay 0, kept by 4, 3, 3, 3 and 3 rules: 324 cores of 5 rules with names of 8 bytes.
+    let mut most = b"vars=5\nrules=16\ninit=!|a|b|c|de\nprop=!|a|b|c|de\n".to_vec();
+    for rule in 0..16_u8 {
+        let (later, now) = (char::from(b'A' + rule % 5), char::from(b'a' + rule % 5));
+        most.extend(format!("rule=keeper{rule:02}:>{later}{now}\n").bytes());
+    }
+    seen.compare(&most);
+    println!("long reports: {seen:?}");
+    assert!(seen.many_cores >= 10, "{seen:?}");
+    assert!(seen.longest_report >= 16_000, "{seen:?}");
+}
+
+#[test]
+fn randomly_damaged_texts() {
+    let mut random = Random::new(seed_for("reports on damaged texts", 20_260_302));
+    let mut seen = Seen::new();
+    while seen.refused() < 600 {
+        let (bits, rules) = (random.between(1, 7), random.pick(&[1, 2, 3, 4, 5, 6, 16]));
+        let model = models::model(&mut random, bits, rules).text();
+        let text = damaged(&mut random, &model);
+        // A large model that is still accepted takes its time and is no damaged text.
+        if rules < 16 || text::read(&text).is_err() {
+            seen.compare(&text);
+        }
+    }
+    println!("reports on damaged texts: {seen:?}");
+    for number in 1..=9 {
+        assert!(seen.by_number[number] >= 10, "number {number} came up too seldom: {seen:?}");
+    }
+    assert_eq!(seen.last_line, 21, "{seen:?}");
+}
+
+/// The first 2,048 bytes are judged alone: a line that ends in the last of them ends, and one byte later it does not.
+#[test]
+fn lines_that_end_near_byte_2048() {
+    let mut seen = Seen::new();
+    let lines_before = [
+        (&b""[..], &b"vars="[..], Reason::CountImproper),
+        (b"vars=3\n", b"rules=", Reason::CountImproper),
+        (b"vars=3\nrules=3\n", b"init=", Reason::ExpressionLength),
+        (b"vars=3\nrules=3\ninit=!c\n", b"prop=", Reason::ExpressionLength),
+        (&TREMOR[..34], b"rule=", Reason::NameImproper),
+        (&TREMOR[..46], b"rule=rb:", Reason::ExpressionLength),
+        (&TREMOR[..58], b"rule=ra:", Reason::NameTaken),
+    ];
+    for (before, key, reason) in lines_before {
+        let line = before.split(|byte| *byte == 10).count() as u8;
+        for (length, number) in [
+            (2047, reason),
+            (2048, reason),
+            (2049, Reason::LineMissing),
+            (2050, Reason::LineMissing),
+            (5000, Reason::LineMissing),
+        ] {
+            let mut text = [before, key].concat();
+            text.resize(length - 1, b'1');
+            text.push(10);
+            text.extend(TREMOR);
+            seen.refused_with(&text, Refused::new(number, line));
+        }
+    }
+    println!("lines that end near byte 2048: {seen:?}");
+}
+
+/// More bytes after a legal model are refused with 9, however many they are.
+#[test]
+fn bytes_after_a_model() {
+    let mut seen = Seen::new();
+    for (model, line) in [(TREMOR, 8), (&sample("largest", "txt"), 21)] {
+        for more in [&b"\n"[..], b"\0", b"r", b"rule=more:1\n", b"\r", b"\xff", model] {
+            seen.refused_with(&[model, more].concat(), Refused::new(Reason::BytesFollow, line));
+        }
+        for length in [2000, 2047, 2048, 2049, 2048 + model.len(), 70_000, 1_000_000] {
+            for byte in [0, b'\n', b'a'] {
+                let mut text = model.to_vec();
+                text.resize(length, byte);
+                seen.refused_with(&text, Refused::new(Reason::BytesFollow, line));
+            }
+        }
+    }
+    println!("bytes after a model: {seen:?}");
+}
+
+/// The program needs no end of its input to come to its own.
+#[test]
+fn inputs_without_end() {
+    let program = Program::found();
+    for (start, byte, expected) in [
+        (TREMOR, b'\n', &b"refused=9\nline=8\n"[..]),
+        (TREMOR, 0, b"refused=9\nline=8\n"),
+        (b"vars=3\n", b'r', b"refused=1\nline=2\n"),
+        (b"", 0, b"refused=1\nline=1\n"),
+    ] {
+        let printed = program.report_without_end(start, byte);
+        assert_alike("report program", &printed, expected, start);
+    }
+}
+
+#[test]
+fn empty_input() {
+    let program = Program::found();
+    let expected = b"refused=1\nline=1\n";
+    assert_alike("plain report", &report(b""), expected, b"");
+    assert_alike("report program", &program.report(b""), expected, b"");
+    assert_alike("report program", &program.report_on_file(Path::new("/dev/null")), expected, b"");
+}
+
+/// Byte 0 ends nothing: it is a byte like any other that no model has.
+#[test]
+fn byte_0() {
+    let mut seen = Seen::new();
+    seen.refused_with(b"\0", Refused::new(Reason::LineMissing, 1));
+    seen.refused_with(&[0; 5000], Refused::new(Reason::LineMissing, 1));
+    seen.refused_with(&[b"\0", TREMOR].concat(), Refused::new(Reason::LineMissing, 1));
+    seen.refused_with(&[TREMOR, b"\0"].concat(), Refused::new(Reason::BytesFollow, 8));
+    for place in 0..TREMOR.len() {
+        let mut text = TREMOR.to_vec();
+        text[place] = 0;
+        seen.compare(&text);
+        text = TREMOR.to_vec();
+        text.insert(place, 0);
+        seen.compare(&text);
+    }
+    println!("byte 0: {seen:?}");
+    assert_eq!(seen.accepted, 0);
+}
+
+/// A pipe gives what is there, and that may be less than the whole input.
+#[test]
+fn inputs_in_pieces() {
+    let program = Program::found();
+    let pause = Duration::from_millis(1);
+    let bytes: Vec<&[u8]> = TREMOR.chunks(1).collect();
+    assert_alike("report program", &program.report_in_pieces(&bytes, pause), TREMOR_REPORT, TREMOR);
+    for (name, length) in [("largest", 100), ("largest", 1419), ("hold_off", 7), ("refused", 60)] {
+        let (text, expected) = (sample(name, "txt"), sample(name, "report"));
+        let pieces: Vec<&[u8]> = text.chunks(length).collect();
+        let printed = program.report_in_pieces(&pieces, 10 * pause);
+        assert_alike("report program", &printed, &expected, &text);
+    }
+    let long = [&sample("largest", "txt")[..], &[b'\n'; 1000]].concat();
+    let pieces: Vec<&[u8]> = long.chunks(300).collect();
+    let printed = program.report_in_pieces(&pieces, pause);
+    assert_alike("report program", &printed, b"refused=9\nline=21\n", &long);
+}
+
+/// What came up, so that a test can demand that everything did.
+struct Seen {
+    program: Program,
+    accepted: usize,
+    by_number: [usize; 12],
+    last_line: usize,
+    holds: usize,
+    broken: usize,
+    must: usize,
+    no_core: usize,
+    empty_core: usize,
+    many_cores: usize,
+    longest_trace: usize,
+    longest_report: usize,
+}
+
+impl Seen {
+    fn new() -> Seen {
+        Seen {
+            program: Program::found(),
+            accepted: 0,
+            by_number: [0; 12],
+            last_line: 0,
+            holds: 0,
+            broken: 0,
+            must: 0,
+            no_core: 0,
+            empty_core: 0,
+            many_cores: 0,
+            longest_trace: 0,
+            longest_report: 0,
+        }
+    }
+
+    fn refused(&self) -> usize {
+        self.by_number.iter().sum()
+    }
+
+    fn compare(&mut self, input: &[u8]) {
+        let expected = report(input);
+        assert_alike("report program", &self.program.report(input), &expected, input);
+        self.note(&String::from_utf8(expected).expect("letters, digits and signs"));
+    }
+
+    /// Both reports on an input that document 01 refuses in this way.
+    fn refused_with(&mut self, input: &[u8], refused: Refused) {
+        let expected = format!("refused={}\nline={}\n", refused.reason.number(), refused.line);
+        assert_alike("plain report", &report(input), expected.as_bytes(), input);
+        self.compare(input);
+    }
+
+    fn note(&mut self, report: &str) {
+        let after = |key| report.lines().find_map(|line| line.strip_prefix(key));
+        let number = |key| after(key).map(|digits: &str| digits.parse::<usize>().expect("a number"));
+        if let Some(refused) = number("refused=") {
+            self.by_number[refused] += 1;
+            self.last_line = self.last_line.max(number("line=").expect("a line"));
+            return;
+        }
+        self.accepted += 1;
+        self.holds += usize::from(after("verdict=") == Some("holds"));
+        self.broken += usize::from(after("verdict=") == Some("broken"));
+        self.must += usize::from(after("must=") != Some("-"));
+        self.no_core += usize::from(number("cores=") == Some(0));
+        self.empty_core += usize::from(after("core=") == Some("-"));
+        self.many_cores += usize::from(number("cores=") >= Some(10));
+        let states = report.lines().filter(|line| line.starts_with("state=")).count();
+        self.longest_trace = self.longest_trace.max(states);
+        self.longest_report = self.longest_report.max(report.len());
+    }
+}
+
+impl std::fmt::Debug for Seen {
+    fn fmt(&self, out: &mut std::fmt::Formatter) -> std::fmt::Result {
+        let Seen { accepted, by_number, last_line, holds, broken, must, .. } = self;
+        write!(out, "{accepted} accepted ({holds} hold, {broken} broken, {must} with MUST rules, ")?;
+        let Seen { no_core, empty_core, many_cores, longest_trace, longest_report, .. } = self;
+        write!(
+            out,
+            "{no_core} without core, {empty_core} with the empty core, {many_cores} with 10 cores or more, "
+        )?;
+        write!(out, "longest trace {longest_trace}, longest report {longest_report} bytes); ")?;
+        write!(
+            out,
+            "{} refused, numbers 1 to 9: {:?}, last line {last_line}",
+            self.refused(),
+            &by_number[1..=9]
+        )
+    }
+}
+
+fn assert_alike(by: &str, printed: &[u8], expected: &[u8], input: &[u8]) {
+    let line = printed.split(|byte| *byte == 10).zip(expected.split(|byte| *byte == 10));
+    let first = line.take_while(|(one, two)| one == two).count() + 1;
+    assert!(
+        printed == expected,
+        "the {by} differs in line {first}\nprinted  b\"{}\"\nexpected b\"{}\"\n{}",
+        printed.escape_ascii(),
+        expected.escape_ascii(),
+        show(&input[..input.len().min(3000)])
+    );
+}
+
+fn models_folder() -> PathBuf {
+    Path::new(env!("CARGO_MANIFEST_DIR")).join("../../models")
+}
+
+fn path_of(name: &str, extension: &str) -> PathBuf {
+    models_folder().join(format!("{name}.{extension}"))
+}
+
+fn sample(name: &str, extension: &str) -> Vec<u8> {
+    let path = path_of(name, extension);
+    std::fs::read(&path).unwrap_or_else(|error| panic!("{}: {error}", path.display()))
+}
+
+/// The files of the folder with this extension, without it.
+fn names_in_models(extension: &str) -> Vec<String> {
+    let entries = std::fs::read_dir(models_folder()).expect("the folder models");
+    let mut paths: Vec<PathBuf> = entries.map(|entry| entry.expect("a folder entry").path()).collect();
+    paths.retain(|path| path.extension() == Some(extension.as_ref()));
+    let mut names: Vec<String> = paths
+        .iter()
+        .map(|path| path.file_stem().expect("a file name").to_string_lossy().into_owned())
+        .collect();
+    names.sort();
+    names
+}
+
+fn count_lines(name: &str, key: &[u8]) -> usize {
+    sample(name, "report").split(|byte| *byte == 10).filter(|line| line.starts_with(key)).count()
+}
