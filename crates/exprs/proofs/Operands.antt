@@ -1,4 +1,4 @@
--- What stands at the start of a text by how many operands its first byte takes, for `read` and `value` alike.
+-- What stands at the start of a text by how many operands its first byte takes, for `read`, `value` and `words` alike.
 -- From the definitions of `Reading` and the law that what is read is written.
 use Prim.Native.Nat.{ℕ, _+_, _<_, _≤_}
 use mathlib.Core.Path.{_≡_, refl, sym, ap, _∙_}

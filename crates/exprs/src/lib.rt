@@ -2,3 +2,4 @@
 pub mod reading;
 pub mod token;
 pub mod value;
+pub mod words;

@@ -13,7 +13,7 @@ pub enum Valued {
 }
 
 // A state's bit at a place. A place past the type's width has no bit.
-fn bit_at(state: usize, place: u8) -> bool
+pub(crate) fn bit_at(state: usize, place: u8) -> bool
     ensures { λ r. ⌜ r ≡ has state place ⌝ }
 {
     if place < 64 {

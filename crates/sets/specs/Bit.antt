@@ -1,15 +1,15 @@
 -- A number as a set: rule i is in set S where place i of S is a one; in a state, letter i is true there.
 -- The laws say which rules the full set, what is left of it, one rule alone and a meet have; from the places' digits, by induction on the places.
 use Prim.Native.Nat.{ℕ, zero, suc, _+_, _-_, _/_, _%_, _^_, _≤_, _<_, min, max, zero-le}
-use mathlib.Core.Path.{_≡_, refl, sym, ap, _∙_}
+use mathlib.Core.Path.{_≡_, refl, sym, ap, ap₂, _∙_}
 use mathlib.Core.Logic.{_↔_, _≢_, _⊎_, inl, inr, ⊎-elim}
-use mathlib.Core.Bool.{Bool, true}
+use mathlib.Core.Bool.{Bool, true, not, Bool·beq}
 use native.Mathlib.Omega.{arith}
 use native.Mathlib.Nat.{pow-suc, lt-of-not-le}
 use native.Mathlib.Numerals.{one-add}
 use lib.Dec.{eqb}
 use lib.Arith.{bin-ind}
-use lib.Bits.{bitAnd, bitOr, and-step, or-step, and-le-l}
+use lib.Bits.{bitAnd, bitOr, bitXor, differ, and-step, or-step, xor-step, and-le-l}
 use lib.Pow.{pow-pos, shr-shr, ones-lt}
 use borrow.Author.Tests.{eqb-true, eq-eqb}
 
@@ -70,6 +70,19 @@ digit-or S T zero = omega (arith, or-step S T)
 digit-or S T (suc i) =
     let half : bitOr S T / 2 ≡ bitOr (S / 2) (T / 2) = omega (arith, or-step S T) in
     rw half (digit-or (S / 2) (T / 2) i)
+
+differ-lt : (d e : ℕ) → d < 2 → e < 2 → differ d e < 2
+differ-lt zero e h l = l
+differ-lt (suc zero) zero h l = h
+differ-lt (suc zero) (suc e) h l = omega arith
+differ-lt (suc (suc d)) e h l = absurd (omega arith)
+
+digit-xor : (S T i : ℕ) → digit (bitXor S T) i ≡ differ (digit S i) (digit T i)
+unfolding digit
+digit-xor S T zero = omega (arith, xor-step S T, differ-lt (S % 2) (T % 2) (omega arith) (omega arith))
+digit-xor S T (suc i) =
+    let half : bitXor S T / 2 ≡ bitXor (S / 2) (T / 2) = omega (arith, xor-step S T, differ-lt (S % 2) (T % 2) (omega arith) (omega arith)) in
+    rw half (digit-xor (S / 2) (T / 2) i)
 
 digit-minus : (S T i : ℕ) → digit (S - bitAnd S T) i + min (digit S i) (digit T i) ≡ digit S i
 unfolding digit
@@ -149,6 +162,23 @@ has-or S T i = (
     either : (d : ℕ) → digit S i ≡ d → digit (bitOr S T) i ≡ 1 → (has S i ≡ true) ⊎ (has T i ≡ true)
     either zero e m = inr (has-digit T i .1 (omega (arith, digit-or S T i)))
     either (suc d) e m = inl (has-digit S i .1 (omega (arith, digit-lt S i)))
+
+-- Which rules are in exactly one of two sets.
+pub has-xor : (S T i : ℕ) → has (bitXor S T) i ≡ not (Bool·beq (has S i) (has T i))
+unfolding has
+has-xor S T i =
+    ap (λ (d : ℕ). eqb d 1) (sym (digit-at (bitXor S T) i) ∙ digit-xor S T i)
+    ∙ told (digit S i) (digit T i) (digit-lt S i) (digit-lt T i)
+    ∙ ap₂ (λ (d e : ℕ). not (Bool·beq (eqb d 1) (eqb e 1))) (digit-at S i) (digit-at T i)
+  where
+    told : (d e : ℕ) → d < 2 → e < 2 → eqb (differ d e) 1 ≡ not (Bool·beq (eqb d 1) (eqb e 1))
+    told zero zero h l = refl
+    told zero (suc zero) h l = refl
+    told (suc zero) zero h l = refl
+    told (suc zero) (suc zero) h l = refl
+    told (suc (suc d)) e h l = absurd (omega arith)
+    told zero (suc (suc e)) h l = absurd (omega arith)
+    told (suc zero) (suc (suc e)) h l = absurd (omega arith)
 
 -- Which rules are in the first of two sets and not in the second.
 pub has-minus : (S T i : ℕ) → (has (S - bitAnd S T) i ≡ true) ↔ ((has S i ≡ true) × (¬ (has T i ≡ true)))

@@ -1,6 +1,7 @@
 -- The root of this crate's definitions and laws: a rule set as a number, and the theory of cores and cuts for any judgement of rule sets.
 pub mod Choice
 pub mod Bit
+pub mod Gathered
 pub mod Sets
 pub mod Cores
 pub mod Lists

@@ -1,4 +1,5 @@
 -- What the proofs of several functions use.
 mod Filling
+mod Reaching
 mod Stored
 mod Traces

@@ -7,11 +7,7 @@ use mathlib.Core.Bool.{Bool, true, false, true≢false}
 use native.Mathlib.Decide.{le-ind}
 use native.Mathlib.Nat.{eq-or-lt-of-le}
 use native.Mathlib.Omega.{arith}
-
--- 1 for a test that is passed, else 0.
-unfoldable pub one : Bool → ℕ
-one true = 1
-one false = 0
+use Rattle.sets.specs.Gathered.{one}
 
 -- How many k below n have p k.
 unfoldable pub count : ℕ → (ℕ → Bool) → ℕ

@@ -18,7 +18,9 @@ pub mod SearchLaws
 pub mod Meaning
 pub mod Tabulated
 pub mod Tables
+pub mod Words
 pub mod Tabled
+pub mod Marks
 pub mod Stored
 pub mod Traced
 pub mod TablesTell

@@ -1,23 +1,21 @@
 -- The tables of a model, as code holds them: the marks of states, and for each pair of states its mask, the set of the rules that it meets.
 -- The laws read an entry, and say that a pair is a step of a set exactly when the set is a part of its mask. From `Meaning`, and the rules
 -- that a number has. Assumes nothing.
-use Prim.Native.Nat.{ℕ, zero, suc, _+_, _-_, _*_, _/_, _%_, _^_, _≤_, _<_}
-use mathlib.Core.Path.{_≡_, refl, sym, ap, _∙_}
+use Prim.Native.Nat.{ℕ, _+_, _*_, _/_, _%_, _^_, _≤_, _<_}
+use mathlib.Core.Path.{_≡_, refl, sym, _∙_}
 use mathlib.Core.Logic.{_↔_}
 use mathlib.Core.Bool.{Bool, true, false, cond, _&&_}
 use mathlib.Core.List.{List}
 use mathlib.Core.Option.{Option, none, some}
 use native.Mathlib.Omega.{arith}
-use native.Mathlib.Nat.{pow-suc}
-use borrow.Author.Count.{below-more}
 use borrow.Author.Tests.{lt-ltb}
 use lib.Dec.{eqb, ltb}
 use lib.ListN.{length, getD, drop}
-use lib.Arith.{digits-lt}
 use lib.Bits.{bitAnd}
-use lib.Pow.{high, low, field, mod-mod-pow, pow-mono}
+use lib.Pow.{pow-mono}
 use Rattle.sets.specs.Choice.{alike}
 use Rattle.sets.specs.Bit.{has, has-below}
+use Rattle.sets.specs.Gathered.{setOf, setOf-lt, has-setOf}
 use Rattle.sets.specs.Sets.{part, part-iff}
 use Rattle.exprs.specs.declared.value.Valued.{Valued}
 use Rattle.exprs.specs.declared.value.Valued.the-variants.{Value, Unreadable}
@@ -25,7 +23,6 @@ use Rattle.exprs.specs.Expr.{Expr}
 use Rattle.exprs.specs.Reading.{readExpr}
 use Rattle.exprs.specs.Answers.{valueIn, valueOf}
 use Rattle.models.specs.declared.model.Model.{Model}
-use Rattle.systems.specs.Count.{one}
 use Rattle.systems.specs.Meaning.{meets, valueRead, ruleMet, stepOf, step-iff}
 use Rattle.systems.specs.Tabulated.{tabulate, length-tabulate, getD-tabulate}
 
@@ -34,12 +31,6 @@ use Rattle.systems.specs.Tabulated.{tabulate, length-tabulate, getD-tabu
 -- The marks of the states below n that pass the test p: 128 entries, false from n on.
 unfoldable pub marksOf : ℕ → (ℕ → Bool) → List Bool
 marksOf n p = tabulate 128 (λ s. ltb s n && p s)
-
--- The set of those of the first n rules that pass the test p.
-unfoldable pub setOf : ℕ → (ℕ → Bool) → ℕ
-unfolding one
-setOf zero p = 0
-setOf (suc n) p = one (p n) * 2 ^ n + setOf n p
 
 -- The mask of a pair of states: the set of the rules that the pair meets.
 unfoldable pub maskOf : List ℕ → Model → ℕ → ℕ → ℕ
@@ -87,42 +78,6 @@ module _ (n : ℕ) (p : ℕ → Bool) where
   mark-at s h b = getD-tabulate 128 (λ s. ltb s n && p s) false s (omega arith) ∙ rw (lt-ltb s n h)
 
 -- ---- the masks
-
-pub one-lt : (b : Bool) → one b < 2
-unfolding one
-one-lt true = omega arith
-one-lt false = omega arith
-
-one-is : (b : Bool) → eqb (one b % 2) 1 ≡ b
-unfolding one
-one-is true = refl
-one-is false = refl
-
--- Rules from n on make no difference to a rule below n.
-has-low : (n S i : ℕ) → i < n → has (S % 2 ^ n) i ≡ has S i
-unfolding has
-has-low n S i h =
-    let e : n ≡ n - suc i + (1 + i) = omega arith in
-    ap (λ (x : ℕ). eqb x 1) (sym (field (S % 2 ^ n) 1 i) ∙ ap (λ (x : ℕ). x / 2 ^ i) (rw (e, mod-mod-pow)) ∙ field S 1 i)
-
-pub setOf-lt : (n : ℕ) (p : ℕ → Bool) → setOf n p < 2 ^ n
-unfolding setOf
-setOf-lt zero p = omega arith
-setOf-lt (suc n) p = omega (arith, digits-lt (one-lt (p n)) (setOf-lt n p), pow-suc 2 n)
-
--- Of the first n rules, the set has those that pass the test.
-pub has-setOf : (n : ℕ) (p : ℕ → Bool) (i : ℕ) → i < n → has (setOf n p) i ≡ p i
-unfolding setOf has
-has-setOf zero p i h = absurd (omega arith)
-has-setOf (suc n) p i h =
-    below-more (λ (i : ℕ). has (setOf (suc n) p) i ≡ p i) n
-    (λ i l.
-    sym (has-low n (setOf (suc n) p) i l)
-    ∙ ap (λ (S : ℕ). has S i) (low (one (p n)) n (setOf-lt n p))
-    ∙ has-setOf n p i l)
-    (ap (λ (x : ℕ). eqb (x % 2) 1) (high (one (p n)) n (setOf-lt n p)) ∙ one-is (p n))
-    i
-    (omega arith)
 
 module _ (text : List ℕ) (m : Model) (s t : ℕ) where
   pub mask-lt : maskOf text m s t < 2 ^ m .rules

@@ -71,7 +71,7 @@ module _ {A : Type 0} where
       (set-at (tabulate i f) (getD l i (f i)) (drop (suc i) l) (f i) i (length-tabulate i f))
 
   -- A list in two parts, one after the other.
-  in-parts : (n k : ℕ) (f : ℕ → A) → tabulate (n + k) f ≡ tabulate n f ++ tabulate k (λ i. f (n + i))
+  pub in-parts : (n k : ℕ) (f : ℕ → A) → tabulate (n + k) f ≡ tabulate n f ++ tabulate k (λ i. f (n + i))
   unfolding tabulate
   in-parts n zero f = rw add-zero (sym (append-nil (tabulate n f)))
   in-parts n (suc k) f = rw (add-suc, in-parts n k f, append-assoc)

@@ -21,7 +21,7 @@ pub fn trace_in(text: &[u8], m: Model, set: u16) -> Trace
     crate::trace::trace_of(&masks, starts, bads, states, set)
 }
 
-// Whether a set holds by the tables of a model.
+// Whether a set holds by the tables of a model. Each reached state's row is walked once, until a bad state is reached or no row is left.
 pub fn is_held(
     masks: &[u16; 16384],
     starts: [bool; 128],
@@ -32,6 +32,14 @@ pub fn is_held(
     requires { ⌜ states ≤ 128 ⌝ }
     ensures { λ r. ⌜ r ≡ holds (tabled (now (masks .entry)) starts bads states set) ⌝ }
 {
-    let trace = crate::trace::trace_of(masks, starts, bads, states, set);
-    trace.length == 0
+    let mut marks = crate::marking::first_marks(starts, bads, states);
+    let mut s = crate::marking::next_round(&marks, 0, states);
+    while s < states {
+        if crate::marking::is_hit(&marks, states) {
+            return false;
+        }
+        crate::marking::walk_row(masks, states, set, s, &mut marks);
+        s = crate::marking::next_round(&marks, s, states);
+    }
+    true
 }

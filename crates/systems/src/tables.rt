@@ -1,12 +1,16 @@
 // The transition system of a model, computed once: the marks of its start states and bad states, and the mask of each pair of states.
 ghost use mathlib.Core.Path.{_≡_};
 ghost use mathlib.Core.Bool.{Bool·beq};
-ghost use Prim.Native.Nat.{_^_, _≤_};
-ghost use lib.ListN.{length};
+ghost use Prim.Native.Nat.{_+_, _*_, _^_, _≤_, _<_};
+ghost use lib.ListN.{length, getD};
+ghost use Rattle.sets.specs.Bit.{has};
+ghost use Rattle.sets.specs.Gathered.{setOf};
 ghost use Rattle.systems.specs.Meaning.{meets, startOf, badOf};
 ghost use Rattle.systems.specs.Tabulated.{tabulate};
 ghost use Rattle.systems.specs.Tables.{marksOf, maskOf, masksOf};
+ghost use Rattle.systems.specs.Words.{wordAt, wordTable};
 use exprs::value::Valued;
+use exprs::words::Worded;
 use models::model::Model;
 
 // How many states a model of `vars` letters has.
@@ -58,32 +62,77 @@ pub fn bad_marks(text: &[u8], m: Model) -> [bool; 128]
     marks_of(text, m.prop, state_count(m.vars), false)
 }
 
-// The set of the rules that a pair of states meets.
-fn mask_of(text: &[u8], m: Model, s: usize, t: usize) -> u16
+// The expression at a place of the text at 64 next states at once. Where none can be read, no state meets it.
+fn word_of(text: &[u8], place: usize, s: usize, block: usize) -> u64
+    ensures { λ r. ⌜ r ≡ wordAt (now (text .entry)) place s block ⌝ }
+{
+    let w = exprs::words::words(models::parts::rest(text, place), s, block);
+    match w {
+        Worded::Word(x, _) => x,
+        Worded::NoWord => 0,
+    }
+}
+
+// The words of all rules.
+fn rule_words(text: &[u8], m: Model, s: usize, block: usize) -> [u64; 16]
     requires { ⌜ m .rules ≤ 16 ⌝ }
-    ensures { λ r. ⌜ r ≡ maskOf (now (text .entry)) m s t ⌝ }
+    ensures { λ r. ⌜ r ≡ wordTable (now (text .entry)) m s block (m .rules) ⌝ }
 {
     let rules = m.rules;
+    let mut words = [0u64; 16];
+    let mut i = 0;
+    while i < rules {
+        words[i] = word_of(text, m.steps[i], s, block);
+        i += 1;
+    }
+    words
+}
+
+// The set of the rules whose words have bit t.
+fn mask_at(words: &[u64; 16], rules: usize, t: usize) -> u16
+    requires { ⌜ length (now words) ≡ 16 ⌝ }
+    requires { ⌜ rules ≤ 16 ⌝ }
+    requires { ⌜ t < 64 ⌝ }
+    ensures { λ r. ⌜ r ≡ setOf rules (λ i. has (getD (now (words .entry)) i 0) t) ⌝ }
+{
     let mut mask = 0u16;
     let mut i = 0;
     while i < rules {
-        let met = is_met(text, m.steps[i], s, t);
-        mask = mask | (met as u16) << i;
+        let bit = (words[i] >> t) % 2;
+        mask = mask | (bit as u16) << i;
         i += 1;
     }
     mask
 }
 
+// The masks of the pairs of s with the states from 64 * block on, as many as the part has entries.
+fn fill_block(text: &[u8], m: Model, s: usize, block: usize, part: &mut [u16])
+    requires { ⌜ m .rules ≤ 16 ⌝ }
+    requires { ⌜ length (now part) ≤ 64 ⌝ }
+    ensures { λ _.
+        ⌜ now (part .exit) ≡ tabulate (length (now (part .entry))) (λ t. maskOf (now (text .entry)) m s (64 * block + t)) ⌝ }
+{
+    let rules = m.rules;
+    let words = rule_words(text, m, s, block);
+    let mut t = 0;
+    while t < part.len() {
+        part[t] = mask_at(&words, rules, t);
+        t += 1;
+    }
+}
+
 // The masks of the pairs of s with the states from 0 on, as many as the row has entries.
 fn fill_row(text: &[u8], m: Model, s: usize, row: &mut [u16])
     requires { ⌜ m .rules ≤ 16 ⌝ }
+    requires { ⌜ length (now row) ≤ 128 ⌝ }
     ensures { λ _.
         ⌜ now (row .exit) ≡ tabulate (length (now (row .entry))) (maskOf (now (text .entry)) m s) ⌝ }
 {
-    let mut t = 0;
-    while t < row.len() {
-        row[t] = mask_of(text, m, s, t);
-        t += 1;
+    if row.len() <= 64 {
+        fill_block(text, m, s, 0, row);
+    } else {
+        fill_block(text, m, s, 0, &mut row[..64]);
+        fill_block(text, m, s, 1, &mut row[64..]);
     }
 }
 

@@ -4,6 +4,7 @@
 //! * [`plain`] answers the same four calls by a plain search, written from document 01 alone. It shares no code and no
 //!   table with the library: it evaluates every rule for every pair of states, judges every rule set, and takes the
 //!   cores and cuts by their definition.
+//! * [`judgements`] counts the judgements of a list call, for the bench.
 //! * [`program`] runs the report program.
 //! * [`random`] makes models and damaged texts from a seed.
 //! * [`compare`] asks both sides the same question over equally prefilled, guarded bytes and panics where they differ.
@@ -15,6 +16,7 @@
 pub mod answer;
 pub mod calls;
 pub mod compare;
+pub mod judgements;
 pub mod lent;
 pub mod plain;
 pub mod program;

@@ -9,6 +9,7 @@ use std::path::Path;
 use std::time::{Duration, Instant};
 
 use codremif_host::calls;
+use codremif_host::judgements;
 use codremif_host::plain::answers::{judge, write_list};
 use codremif_host::plain::sets::{must, Verdicts};
 use codremif_host::plain::system::TransitionSystem;
@@ -36,7 +37,8 @@ fn main() {
     println!(
         "Times are medians in milliseconds; 'ratio' is the plain search's time divided by the library's."
     );
-    println!("Judged is the full set. All answers of the two sides were alike.");
+    println!("'judged' is how many sets a list call judges; the plain search judges all 2^R, and MUST takes R + 1 at most.");
+    println!("The judge call is given the full set. All answers of the two sides were alike.");
 }
 
 struct Case {
@@ -107,12 +109,13 @@ fn growing(bits: usize, rules: usize) -> Case {
 fn table(title: &str, cases: Vec<Case>) {
     println!("{title}");
     println!(
-        "{:<22} {:>1} {:>2} {:>5} {:>5} |{} |{} |{} |{}",
+        "{:<22} {:>1} {:>2} {:>5} {:>5} {:>6} |{} |{} |{} |{}",
         "model",
         "N",
         "R",
         "cores",
         "cuts",
+        "judged",
         heading("judge"),
         heading("cores"),
         heading("cuts"),
@@ -146,13 +149,15 @@ fn row(case: &Case) -> String {
     );
     let must =
         timed(|| calls::must(text), || Ok(must(&Verdicts::of(&TransitionSystem::of(&read(text))).cores())));
+    let verdicts = Verdicts::of(&TransitionSystem::of(&model));
     format!(
-        "{:<22} {:>1} {:>2} {:>5} {:>5} |{judged} |{cores} |{cuts} |{must}",
+        "{:<22} {:>1} {:>2} {:>5} {:>5} {:>6} |{judged} |{cores} |{cuts} |{must}",
         case.name,
         model.bits,
         model.rules.len(),
         cores.answer.expect("enough bytes lent"),
-        cuts.answer.expect("enough bytes lent")
+        cuts.answer.expect("enough bytes lent"),
+        judgements::of_a_list(&verdicts, model.rules.len())
     )
 }
 

@@ -1,53 +1,61 @@
--- `systems::tables::fill_row` meets its contract. The loop's invariant: after t turns the first t entries are masks, and the others are
--- as they came. Assumes nothing.
-use Prim.Native.Nat.{ℕ, _+_, _-_, _<_, _≤_}
-use mathlib.Core.Path.{_≡_, refl, ap, ap₂, _∙_}
-use mathlib.Core.List.{List, _++_, append-nil}
+-- `systems::tables::fill_row` meets its contract: one block, or two one after the other. Assumes nothing.
+use Prim.Native.Nat.{ℕ, _+_, _-_, _*_, _≤_, _<_}
+use mathlib.Core.Path.{_≡_, sym, ap, _∙_}
+use mathlib.Core.List.{List, [], _++_, append-nil}
 use native.Mathlib.Omega.{arith}
 use borrow.Author.Needs.{needs}
-use lib.ListN.{length, drop, set, length-set, drop-of-length-le}
-use Rattle.systems.specs.Tabulated.{tabulate, next-stored}
+use borrow.Rule.Slice.PartMut.{midOf, putMid}
+use lib.ListN.{length, take, drop, length-append, length-take, length-drop, drop-of-length-le}
+use lib.Seq.{length-take-le, take-at, drop-at}
+use Rattle.systems.specs.Tabulated.{tabulate, length-tabulate, same-entries, in-parts}
 use Rattle.systems.specs.Tables.{maskOf}
 use Rattle.systems.proofs.tables.fill_row.Statement.{statement}
 use Rattle.systems.proofs.tables.fill_row.Tie as tie
 
-record Filled (f : ℕ → ℕ) (row₀ row : List ℕ) (t : ℕ) : Type 0 where
-  within : t ≤ length row
-  kept : length row ≡ length row₀
-  entries : row ≡ tabulate t f ++ drop t row₀
+-- the first block begins at 0
+from-zero : (n : ℕ) (f : ℕ → ℕ) → tabulate n (λ t. f (64 * 0 + t)) ≡ tabulate n f
+from-zero n f = same-entries n (λ t. f (64 * 0 + t)) f (λ t l. ap f (omega arith))
 
-module _ (f : ℕ → ℕ) (row₀ row : List ℕ) (t : ℕ) (h : Filled f row₀ row t) where
-  one-more : (v : ℕ) → t < length row → v ≡ f t → Filled f row₀ (set row t v) (t + 1)
-  one-more v l e = record {
-    within = simp length-set (omega arith);
-    kept = length-set row t v ∙ h .kept;
-    entries = ap₂ (λ row v. set row t v) (h .entries) e ∙ next-stored f t row₀ (omega arith);
-  }
+-- a row of more than 64 entries, whose first 64 come back as `first` and the others as `second`
+module _ (f : ℕ → ℕ) (row first second : List ℕ) (more : 64 < length row) (low : first ≡ tabulate (length (take 64 row)) (λ t. f (64 * 0 + t))) where
+  first-is : first ≡ tabulate 64 f
+  first-is = low ∙ ap (λ (n : ℕ). tabulate n (λ t. f (64 * 0 + t))) (length-take-le 64 row (omega arith)) ∙ from-zero 64 f
 
-  full : length row ≤ t → row ≡ tabulate (length row₀) f
-  full l =
-      let end : t ≡ length row₀ = omega arith in
-      h .entries ∙ ap₂ _++_ (ap (λ (n : ℕ). tabulate n f) end) (drop-of-length-le row₀ {i = t} (omega arith)) ∙ append-nil (tabulate (length row₀) f)
+  first-long : length first ≡ 64
+  first-long = ap length first-is ∙ length-tabulate 64 f
 
-abbrev Inv-loop : tie.InvT-loop
-Inv-loop text m s row₀ t₀ row t = Filled (maskOf text m s) row₀ row t
+  rest-is : drop 64 (first ++ drop 64 row) ≡ drop 64 row
+  rest-is = drop-at first (drop 64 row) 64 first-long
 
-abbrev μ-loop : tie.MeasureT-loop
-μ-loop text m s row₀ t₀ row t = length row - t
+  left : length (first ++ drop 64 row) - 64 ≡ length row - 64
+  left = omega (arith, length-append first (drop 64 row), first-long, length-drop 64 row)
+
+  two-blocks : second ≡ tabulate (length (midOf 64 (length (first ++ drop 64 row) - 64) (first ++ drop 64 row))) (λ t. f (64 * 1 + t))
+      → putMid 64 (length (first ++ drop 64 row) - 64) (first ++ drop 64 row) second ≡ tabulate (length row) f
+  two-blocks high =
+      let n : ℕ = length row - 64 in
+      let mid : length (take n (drop 64 row)) ≡ n = length-take-le n (drop 64 row) (omega (arith, length-drop 64 row)) in
+      let none : drop n (drop 64 row) ≡ [] = drop-of-length-le (drop 64 row) {i = n} (omega (arith, length-drop 64 row)) in
+      let whole : 64 + n ≡ length row = omega arith in
+      rw (high, left, rest-is, mid, none, take-at first (drop 64 row) 64 first-long, first-is, append-nil)
+      (sym (in-parts 64 n f) ∙ ap (λ (k : ℕ). tabulate k f) whole)
 
 pub fill-row-spec : {M : Type 1} → statement M
-unfolding tabulate
 fill-row-spec =
     tie.close
     (tie.spec
-    Inv-loop
-    μ-loop
-    (λ c. record { within = omega arith; kept = refl; entries = refl })
     (λ c κs. search needs)
-    (λ c. omega arith)
-    (λ c. omega arith)
-    (λ c. omega arith)
-    (λ c. simp length-set (omega arith))
-    (λ c. one-more _ _ _ _ (c .before .before .loop .inv) _ (c .before .loop-test .taken) (c .mask-of .ensures))
-    (λ c. c .before .loop .inv .kept)
-    (λ c. full _ _ _ _ (c .before .loop .inv) (c .loop-test .left)))
+    (λ c. search needs)
+    (λ c. sym (length-take-le 64 (c .before .before .before .before .args .row .now) (omega (arith, c .before .if1 .left))))
+    (λ c κs. (c .before .before .before .before .pre .0, omega (arith, length-take 64 (c .before .before .before .before .args .row .now))))
+    (λ c. search needs)
+    (λ c. search needs)
+    (λ c. search needs)
+    (λ c κs. search needs)
+    (λ c. search needs)
+    (λ c. c .before .before .fill-block .ensures ∙ from-zero _ _)
+    (λ c. search needs)
+    (λ c.
+    let a = c .before .before .before .before .before .before .before .before .before .before .before .args in
+    let more : 64 < length (a .row .now) = omega (arith, c .before .before .before .before .before .before .before .before .if1 .left) in
+    two-blocks (maskOf (a .text .now) (a .m) (a .s)) (a .row .now) _ _ more (c .before .before .before .before .before .before .fill-block2 .ensures) (c .before .before .fill-block3 .ensures)))

@@ -26,6 +26,9 @@ module _ (f : ℕ → ℕ → ℕ) (states : ℕ) (masks : List ℕ) (s : ℕ) (
   size : length masks ≡ 16384
   size = ap length (h .entries) ∙ length-pairs s states f
 
+  row-few : length (take (128 * s + states - 128 * s) (drop (128 * s) masks)) ≤ 128
+  row-few = omega (arith, length-take (128 * s + states - 128 * s) (drop (128 * s) masks), h .few)
+
   -- the part from `128 * s` up to `128 * s + states` has come back as a row
   one-more : (row : List ℕ) → s < states → row ≡ tabulate (length (take (128 * s + states - 128 * s) (drop (128 * s) masks))) (f s)
       → Filled f states (putMid (128 * s) (128 * s + states - 128 * s) masks row) (s + 1)
@@ -58,7 +61,7 @@ pair-masks-spec =
     (λ c. omega arith)
     (λ c. omega arith)
     (λ c. omega (arith, size _ _ _ _ (c .before .loop .inv)))
-    (λ c κs. search needs)
+    (λ c κs. (c .before .before .before .before .before .pre .1, row-few _ _ _ _ (c .before .before .loop .inv)))
     (λ c. omega arith)
     (λ c. omega arith)
     (λ c. one-more _ _ _ _ (c .before .before .before .before .loop .inv) _ (c .before .before .before .loop-test .taken) (c .before .fill-row .ensures))
