@@ -3,10 +3,10 @@
 -- From the theorem on verdict and trace (`Rattle.systems.specs.Judged`), the laws of the answers and the written form of models.
 use Prim.Native.Nat.{ℕ, _^_, _≤_, _<_}
 use mathlib.Core.Path.{_≡_, refl, sym, ap, _∙_}
-use mathlib.Core.Logic.{_↔_, _⊎_, inl, inr, ⊎-elim}
+use mathlib.Core.Logic.{_↔_}
 use mathlib.Core.Bool.{Bool, true, false, cond, not}
-use mathlib.Core.List.{List, [], _∷_, _++_}
-use mathlib.Core.Option.{Option, some}
+use mathlib.Core.List.{List}
+use mathlib.Core.Option.{some}
 use native.Mathlib.Omega.{arith}
 use borrow.Author.Tests.{ltb-true, ltb-false}
 use lib.Dec.{ltb}
@@ -18,14 +18,13 @@ use Rattle.exprs.specs.Expr.{Expr, value}
 use Rattle.exprs.specs.Reading.{readExpr}
 use Rattle.models.specs.declared.model.Outcome.the-variants.{Accepted}
 use Rattle.models.specs.Reading.{readModel}
-use Rattle.models.specs.Written.{Described, ruleAt, Legal, writtenModel, Finds}
+use Rattle.models.specs.Written.{Described, ruleAt, Legal, writtenModel}
 use Rattle.models.specs.WrittenLaws.{accepted-is-found}
 use Rattle.systems.specs.System.{System, Breach, Trace}
 use Rattle.systems.specs.Verdict.{holds, traceOf}
 use Rattle.systems.specs.Walks.{holds-no-breach, no-breach-holds}
 use Rattle.systems.specs.Judged.{judged}
-use Rattle.systems.specs.Meaning.{valueRead, meets, startOf, badOf, ruleMet, stepOf, systemOf, step-iff}
-use Rattle.codremif.specs.declared.answers.JudgeAnswer.{JudgeAnswer}
+use Rattle.systems.specs.Meaning.{valueRead, meets, startOf, badOf, ruleMet, systemOf, step-iff}
 use Rattle.codremif.specs.declared.answers.JudgeAnswer.the-variants.{Refused as JudgeRefused, Holds, Broken}
 use Rattle.codremif.specs.Answers.{modelOf, systemIn, traceIn, textOutcome, verdictOf, judgeAnswer, judgeBytes}
 use Rattle.codremif.specs.AnswerLaws.{judge-numbers, judge-enough, not-refused}

@@ -1,7 +1,7 @@
 -- A letter's bit in the next states 64 * block + t for t below 64: the first six letters are bits of t, and the others are bits of the block.
 -- From the places of a number. Assumes nothing.
 use Prim.Native.Nat.{ℕ, _+_, _-_, _*_, _/_, _%_, _^_, _≤_, _<_}
-use mathlib.Core.Path.{_≡_, refl, sym, ap, _∙_}
+use mathlib.Core.Path.{_≡_, sym, ap, _∙_}
 use mathlib.Core.Bool.{Bool}
 use native.Mathlib.Omega.{arith}
 use lib.Dec.{eqb}

@@ -1,10 +1,10 @@
 -- What stands at the start of a text by how many operands its first byte takes, for `read`, `value` and `words` alike.
 -- From the definitions of `Reading` and the law that what is read is written.
-use Prim.Native.Nat.{ℕ, _+_, _<_, _≤_}
+use Prim.Native.Nat.{ℕ, _+_, _≤_}
 use mathlib.Core.Path.{_≡_, refl, sym, ap, _∙_}
 use mathlib.Core.Logic.{_≢_}
 use mathlib.Core.Bool.{Bool}
-use mathlib.Core.List.{List, [], _∷_, _++_}
+use mathlib.Core.List.{List, [], _∷_}
 use mathlib.Core.Option.{Option, none, some, Option·none-ne-some, Option·some-ne-none, Option·some-injective}
 use native.Mathlib.Omega.{arith}
 use lib.ListN.{length, getD, drop, length-append, length-drop}
@@ -12,8 +12,8 @@ use lib.Seq.{drop-drop}
 use Rattle.exprs.specs.declared.token.Token.{Token}
 use Rattle.exprs.specs.declared.token.Token.the-variants.{Constant, Now, Next, Not, And, Or, Implies, Alike, Other}
 use Rattle.exprs.specs.Token.{tokenOf, operandCount}
-use Rattle.exprs.specs.Expr.{Expr, constant, negation, conjunction, disjunction, implication, equivalence, written, size, value}
-use Rattle.exprs.specs.Reading.{withOne, withTwo, before, operands, first, readExpr}
+use Rattle.exprs.specs.Expr.{Expr, negation, conjunction, disjunction, implication, equivalence, written, size, value}
+use Rattle.exprs.specs.Reading.{before, operands, first, readExpr}
 use Rattle.exprs.specs.ReadingLaws.{read-written}
 use Rattle.exprs.specs.Answers.{combined}
 

@@ -3,9 +3,9 @@
 use Prim.Native.Nat.{ℕ, _-_, _*_, _^_, _≤_, _<_}
 use mathlib.Core.Path.{_≡_, refl, sym, ap, _∙_}
 use mathlib.Core.Bool.{Bool, true, false, cond}
-use mathlib.Core.List.{List, [], _∷_, _++_, flatMap}
+use mathlib.Core.List.{List, [], _++_, flatMap}
 use native.Mathlib.Omega.{arith}
-use lib.ListN.{length, take, drop, getD, length-append, length-take}
+use lib.ListN.{length, take, drop, length-append, length-take}
 use lib.Pow.{pow-mono, pow-pos}
 use lib.Seq.{take-at}
 use Rattle.sets.specs.Bit.{full}
@@ -20,15 +20,15 @@ use Rattle.systems.specs.Meaning.{judge}
 use Rattle.codremif.specs.declared.answers.JudgeAnswer.{JudgeAnswer}
 use Rattle.codremif.specs.declared.answers.JudgeAnswer.the-variants.{Refused as JudgeRefused, Holds, Broken}
 use Rattle.codremif.specs.declared.answers.ListAnswer.{ListAnswer}
-use Rattle.codremif.specs.declared.answers.ListAnswer.the-variants.{Count}
 use Rattle.codremif.specs.declared.answers.MustAnswer.{MustAnswer}
 use Rattle.codremif.specs.declared.answers.MustAnswer.the-variants.{Refused as MustRefused, Set}
 use Rattle.codremif.specs.Answers.{IsRead, modelOf, systemIn, traceIn, coresIn, cutsIn, mustIn, verdictOf, judgeAnswer, judgeBytes, coresAnswer, coresBytes, cutsAnswer, cutsBytes, mustAnswer}
 use Rattle.codremif.specs.AnswerLaws.{GivesTrace, GivesSets, judge-enough, cores-enough, cuts-enough, must-given, must-later, not-refused}
 use Rattle.codremif.specs.Packing.{listParts}
-use Rattle.codremif.specs.Host.{rules-le, trace-le, cores-le, cuts-le}
+use Rattle.codremif.specs.Host.{trace-le, cores-le, cuts-le}
 use Rattle.reports.specs.Report.{verdictKey, brokenWord, holdsWord, stateKey, numberLine, verdictLines}
 use Rattle.reports.specs.Decoded.{decoded, AllBelow, decoded-bytes}
+use Rattle.reports.proofs.Naming.{read-rules}
 
 -- ---- the verdict on the full set
 
@@ -134,19 +134,16 @@ pub counted-listed : (R : ℕ) (sets : List ℕ) (n k : ℕ) (bytes : List ℕ) 
 counted-listed R sets n k bytes e w = rw e w
 
 module _ (text : List ℕ) (m : Model) (r : IsRead text m) (lent : List ℕ) (room : length lent ≡ 131072) (a : ListAnswer) (bytes : List ℕ) where
-  few-rules : m .rules ≤ 16
-  few-rules = rw (r .model) (rules-le text)
-
   pub cores-listed : (a ≡ coresAnswer text lent) × (bytes ≡ coresBytes text lent) → Listed (m .rules) (coresIn text) (listParts a .amount) bytes
   unfolding coresIn coresOf
   cores-listed said =
-      listed (m .rules) (coresIn text) lent bytes a few-rules
+      listed (m .rules) (coresIn text) lent bytes a (read-rules text m r)
       (record { each = λ i l. rw (r .model) (mem-listOf (modelOf text .rules) _ _ .0 (at-place (coresIn text) i l) .0) })
       (rw (said .0, said .1) (cores-enough text (r .outcome) lent (omega (arith, room, cores-le text))))
 
   pub cuts-listed : (a ≡ cutsAnswer text lent) × (bytes ≡ cutsBytes text lent) → Listed (m .rules) (cutsIn text) (listParts a .amount) bytes
   unfolding cutsIn cutsOf
   cuts-listed said =
-      listed (m .rules) (cutsIn text) lent bytes a few-rules
+      listed (m .rules) (cutsIn text) lent bytes a (read-rules text m r)
       (record { each = λ i l. rw (r .model) (mem-listOf (modelOf text .rules) _ _ .0 (at-place (cutsIn text) i l) .0) })
       (rw (said .0, said .1) (cuts-enough text (r .outcome) lent (omega (arith, room, cuts-le text))))

@@ -1,7 +1,7 @@
 -- The report of a text, as bytes. From document 01, "The report": its lines in order, each ended by byte 10.
 -- Assumes nothing: these are definitions.
 use Prim.Native.Nat.{ℕ, _+_}
-use mathlib.Core.Bool.{Bool, true, false, cond}
+use mathlib.Core.Bool.{cond}
 use mathlib.Core.List.{List, [], _∷_, _++_, map, flatMap}
 use lib.ListN.{length}
 use Rattle.sets.specs.Bit.{has, full}

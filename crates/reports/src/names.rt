@@ -1,6 +1,6 @@
 // Sets as the names of their rules.
 ghost use mathlib.Core.Path.{_≡_};
-ghost use Prim.Native.Nat.{_^_, _<_, _≤_};
+ghost use Prim.Native.Nat.{_^_, _<_};
 ghost use Rattle.codremif.specs.Answers.{IsRead};
 ghost use Rattle.reports.specs.Page.{pageOf, put};
 ghost use Rattle.reports.specs.Report.{ruleName, namesOf, setLine};

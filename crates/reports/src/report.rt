@@ -3,7 +3,7 @@ ghost use mathlib.Core.Path.{_≡_};
 ghost use lib.ListN.{length};
 ghost use Rattle.sets.specs.Lists.{overwritten};
 ghost use Rattle.sets.specs.Bit.{full};
-ghost use Rattle.codremif.specs.Answers.{IsRead, modelOf, systemIn, coresIn, cutsIn, mustIn};
+ghost use Rattle.codremif.specs.Answers.{IsRead, systemIn, coresIn, cutsIn, mustIn};
 ghost use Rattle.codremif.specs.Packing.{listParts};
 ghost use Rattle.reports.specs.Page.{pageOf, put, window};
 ghost use Rattle.reports.specs.Report.{mustKey, coresKey, coreKey, cutsKey, cutKey, verdictLines, setLine, listLines, modelReport, refusalReport, reportOf};

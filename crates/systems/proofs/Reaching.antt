@@ -1,11 +1,11 @@
 -- How the rows of the reached states are walked: what each mark says, a loop that passes over the marks, and the verdict once a reached state
 -- is bad or no row is left. From the laws of walks and the meaning of the verdict. Assumes nothing.
-use Prim.Native.Nat.{ℕ, _+_, _-_, _*_, _%_, _^_, _≤_, _<_}
+use Prim.Native.Nat.{ℕ, _+_, _-_, _*_, _%_, _≤_, _<_}
 use mathlib.Core.Path.{_≡_, refl, sym, ap, subst, _∙_}
 use mathlib.Core.Logic.{_⊎_, _≢_, inl, inr, ⊎-elim}
 use mathlib.Core.Bool.{Bool, true, false, not, _&&_, _||_, or-false, true≢false}
 use mathlib.Core.List.{List}
-use mathlib.Mathlib.Data.Bool.Basic.{or-inl, or-inr, eq-true-of-not-eq-false, eq-false-of-not-eq-true}
+use mathlib.Mathlib.Data.Bool.Basic.{or-inl, or-inr, eq-false-of-not-eq-true}
 use native.Mathlib.Decide.{ℕ-discrete}
 use native.Mathlib.Nat.{eq-or-lt-of-le}
 use native.Mathlib.Omega.{arith}
@@ -18,7 +18,7 @@ use lib.Seq.{getD-set-same, getD-set-other, getD-take, getD-drop}
 use Rattle.sets.specs.Choice.{alike}
 use Rattle.systems.specs.Least.{least, any, any-intro, any-elim}
 use Rattle.systems.specs.Count.{count, count-le, count-same, count-more}
-use Rattle.systems.specs.System.{System, Reached, Holds}
+use Rattle.systems.specs.System.{System, Reached}
 use Rattle.systems.specs.Walks.{walk-last, reached-start, reached-step, reached-least}
 use Rattle.systems.specs.Verdict.{holds}
 use Rattle.systems.specs.Judged.{holds-iff}

@@ -1,7 +1,7 @@
 -- `models::model::read_model` meets its contract: at each way out, what the lines said picks the case of `readModel`. Each place is within the
 -- text, by the bounds of what a line says. Assumes nothing.
 use Prim.Native.Nat.{ℕ, _+_, _≤_}
-use mathlib.Core.Path.{_≡_, refl, sym, ap, _∙_}
+use mathlib.Core.Path.{_≡_, sym, ap, _∙_}
 use mathlib.Core.List.{List}
 use native.Mathlib.Omega.{arith}
 use borrow.Author.Needs.{needs}
@@ -11,7 +11,7 @@ use Rattle.models.specs.declared.lines.Line.the-variants.{Fault, Read}
 use Rattle.models.specs.declared.model.Reading.{Reading}
 use Rattle.models.specs.Lines.{faultNumber, initKey, propKey, varsLine, rulesLine, stateLine}
 use Rattle.models.specs.Ranges.{Says, says-of, rules-heard, state-heard}
-use Rattle.models.specs.Reading.{refused, onLine, finished, rulesRead, readModel}
+use Rattle.models.specs.Reading.{refused, finished, rulesRead, readModel}
 use Rattle.models.proofs.model.read_model.Statement.{statement}
 use Rattle.models.proofs.model.read_model.Tie as tie
 

@@ -1,6 +1,5 @@
 -- `reports::names::put_names` meets its contract. The loop's invariant: with the names of the rules that are left put as well, the page is as
 -- it will be. Assumes nothing.
-use Prim.Native.Nat.{_<_}
 use mathlib.Core.Path.{ap, _∙_}
 use native.Mathlib.Omega.{arith}
 use borrow.Author.Needs.{needs}

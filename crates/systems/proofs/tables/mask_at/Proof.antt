@@ -2,13 +2,12 @@
 -- words have the bit. Assumes nothing.
 use Prim.Native.Nat.{ℕ, zero, suc, _+_, _-_, _*_, _/_, _%_, _^_, _<_, _≤_}
 use lib.Dec.{eqb}
-use mathlib.Core.Path.{_≡_, refl, sym, ap, _∙_}
+use mathlib.Core.Path.{_≡_, refl, ap, _∙_}
 use mathlib.Core.Bool.{Bool}
 use native.Mathlib.Omega.{arith}
 use native.Mathlib.Numerals.{add-one}
-use borrow.Author.Needs.{needs}
 use lib.Bits.{bitOr, or-shifted-r}
-use lib.ListN.{length, getD}
+use lib.ListN.{getD}
 use lib.Pow.{shl-exact}
 use Rattle.sets.specs.Bit.{has}
 use Rattle.sets.specs.Gathered.{one, setOf, one-lt, setOf-lt}
