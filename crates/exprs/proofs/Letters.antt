@@ -20,9 +20,8 @@ module _ (block t : ℕ) (l : t < 64) where
       let f : 6 + (i - 6) ≡ i = omega arith in
       ap (λ (x : ℕ). eqb (x % 2) 1) (ap (λ (x : ℕ). x / 2 ^ (i - 6)) (sym e) ∙ shr-shr (64 * block + t) 6 (i - 6) ∙ ap (λ (x : ℕ). (64 * block + t) / 2 ^ x) f)
 
-pub low-letter : (i place block word : ℕ) → i < 6 → place ≡ i → word ≡ setOf 64 (λ t. has t i) → word ≡ setOf 64 (λ t. has (64 * block + t) place)
-low-letter i place block word h e said =
-    said ∙ setOf-same 64 (λ t. has t i) (λ t. has (64 * block + t) place) (λ t l. low-bit block t l i h ∙ ap (has (64 * block + t)) (sym e))
+pub low-letter : (place block word : ℕ) → place < 6 → word ≡ setOf 64 (λ t. has t place) → word ≡ setOf 64 (λ t. has (64 * block + t) place)
+low-letter place block word h said = said ∙ setOf-same 64 (λ t. has t place) (λ t. has (64 * block + t) place) (λ t l. low-bit block t l place h)
 
 pub high-letter : (place block word : ℕ) (v : Bool) → 6 ≤ place → v ≡ has block (place - 6) → word ≡ setOf 64 (λ t. v)
     → word ≡ setOf 64 (λ t. has (64 * block + t) place)

@@ -25,14 +25,10 @@ fn same_bits(v: bool) -> u64
 fn next_bits(place: u8, block: usize) -> u64
     ensures { λ r. ⌜ r ≡ setOf 64 (λ t. has (64 * block + t) place) ⌝ }
 {
-    match place {
-        0 => 0xAAAA_AAAA_AAAA_AAAA,
-        1 => 0xCCCC_CCCC_CCCC_CCCC,
-        2 => 0xF0F0_F0F0_F0F0_F0F0,
-        3 => 0xFF00_FF00_FF00_FF00,
-        4 => 0xFFFF_0000_FFFF_0000,
-        5 => 0xFFFF_FFFF_0000_0000,
-        _ => same_bits(crate::value::bit_at(block, place - 6)),
+    if place < 6 {
+        sets::words::having(place as usize)
+    } else {
+        same_bits(crate::value::bit_at(block, place - 6))
     }
 }
 

@@ -1,7 +1,9 @@
 //! How many judgements the library makes for a list: its way of going over the sets, counted on the plain verdicts.
 //!
-//! A set of which nothing is known yet is a seed: it is judged, and made as small, or as large, as its verdict allows, one
-//! rule at a time. Then every set above a set that holds, or below a broken one, is known.
+//! A set of which nothing is known yet is a seed, and the smallest number comes first. A seed that holds is a core, since
+//! its parts have smaller numbers and are known. A broken one gets the other rules one by one while it stays broken; a set
+//! of which something is known need not be judged then, for it holds. Then every set above the core, or below the broken
+//! set, is known.
 
 use crate::plain::sets::Verdicts;
 
@@ -18,17 +20,19 @@ pub fn of_a_list(verdicts: &Verdicts, rules: usize) -> usize {
     judgements
 }
 
-/// Drops or adds rules one by one, and marks what is known then. Gives the judgements made.
+/// Adds rules to a broken seed one by one, and marks what is known then. Gives the judgements made beside the seed's own.
 fn settle(verdicts: &Verdicts, rules: usize, seed: u16, known: &mut [bool]) -> usize {
     let holds = verdicts.holds(seed);
     let mut set = seed;
     let mut judgements = 0;
-    for rule in 0..rules {
-        let changed = if holds { set & !(1 << rule) } else { set | 1 << rule };
-        if changed != set {
-            judgements += 1;
-            if verdicts.holds(changed) == holds {
-                set = changed;
+    if !holds {
+        for rule in 0..rules {
+            let more = set | 1 << rule;
+            if more != set && !known[usize::from(more)] {
+                judgements += 1;
+                if !verdicts.holds(more) {
+                    set = more;
+                }
             }
         }
     }
