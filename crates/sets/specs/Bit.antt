@@ -10,7 +10,7 @@ use native.Mathlib.Numerals.{one-add}
 use lib.Dec.{eqb}
 use lib.Arith.{bin-ind}
 use lib.Bits.{bitAnd, bitOr, bitXor, differ, and-step, or-step, xor-step, and-le-l}
-use lib.Pow.{pow-pos, shr-shr, ones-lt}
+use lib.Pow.{pow-pos, field, mod-mod-pow, shr-shr, ones-lt}
 use borrow.Author.Tests.{eqb-true, eq-eqb}
 
 -- Rule i is in set S (and letter i is true in state S): place i of S, which weighs 2 ^ i, is a one.
@@ -143,6 +143,18 @@ has-front S = ap (λ (d : ℕ). eqb d 1) (sym (digit-at S 0))
 pub has-behind : (S i : ℕ) → has S (suc i) ≡ has (S / 2) i
 unfolding has digit
 has-behind S i = ap (λ (d : ℕ). eqb d 1) (sym (digit-at S (suc i)) ∙ digit-at (S / 2) i)
+
+-- Places from n on make no difference to a place below n.
+pub has-low : (n S i : ℕ) → i < n → has (S % 2 ^ n) i ≡ has S i
+unfolding has
+has-low n S i h =
+    let e : n ≡ n - suc i + (1 + i) = omega arith in
+    ap (λ (x : ℕ). eqb x 1) (sym (field (S % 2 ^ n) 1 i) ∙ ap (λ (x : ℕ). x / 2 ^ i) (rw (e, mod-mod-pow)) ∙ field S 1 i)
+
+-- The places from n on, as a number of their own.
+pub has-high : (n S i : ℕ) → has (S / 2 ^ n) i ≡ has S (n + i)
+unfolding has
+has-high n S i = ap (λ (x : ℕ). eqb (x % 2) 1) (shr-shr S n i)
 
 -- Which rules are in both of two sets.
 pub has-and : (S T i : ℕ) → (has (bitAnd S T) i ≡ true) ↔ ((has S i ≡ true) × (has T i ≡ true))

@@ -3,16 +3,16 @@
 use Prim.Native.Nat.{ℕ, zero, suc, _+_, _-_, _*_, _/_, _%_, _^_, _<_}
 use mathlib.Core.Path.{_≡_, refl, sym, ap, _∙_}
 use mathlib.Core.Logic.{_⊎_, inl, inr}
-use mathlib.Core.Bool.{Bool, true, false, not, _&&_, _||_, Bool·beq, false≢true}
+use mathlib.Core.Bool.{Bool, true, false, not, _&&_, _||_, Bool·beq, false≢true, and-eq-true-iff}
 use native.Mathlib.Omega.{arith}
 use native.Mathlib.Nat.{pow-suc}
 use borrow.Author.Count.{below-more}
 use lib.Dec.{eqb}
 use lib.Arith.{digits-lt}
 use lib.Bits.{bitAnd, bitOr, bitXor, and-lt, or-lt, xor-lt}
-use lib.Pow.{high, low, field, mod-mod-pow, pow-pos, ones-lt, ones-sub-lt}
+use lib.Pow.{high, low, pow-pos, ones-lt, ones-sub-lt}
 use Rattle.sets.specs.Choice.{alike}
-use Rattle.sets.specs.Bit.{has, full, has-and, has-or, has-xor, has-le, has-below, has-zero, has-full, has-rest}
+use Rattle.sets.specs.Bit.{has, full, has-low, has-and, has-or, has-xor, has-le, has-below, has-zero, has-full, has-rest}
 
 -- 1 for a test that is passed, else 0.
 unfoldable pub one : Bool → ℕ
@@ -34,13 +34,6 @@ one-is : (b : Bool) → eqb (one b % 2) 1 ≡ b
 unfolding one
 one-is true = refl
 one-is false = refl
-
--- Places from n on make no difference to a place below n.
-pub has-low : (n S i : ℕ) → i < n → has (S % 2 ^ n) i ≡ has S i
-unfolding has
-has-low n S i h =
-    let e : n ≡ n - suc i + (1 + i) = omega arith in
-    ap (λ (x : ℕ). eqb x 1) (sym (field (S % 2 ^ n) 1 i) ∙ ap (λ (x : ℕ). x / 2 ^ i) (rw (e, mod-mod-pow)) ∙ field S 1 i)
 
 pub setOf-lt : (n : ℕ) (p : ℕ → Bool) → setOf n p < 2 ^ n
 unfolding setOf
@@ -82,7 +75,7 @@ setOf-all n = is-setOf n (full n) (λ i. true) (ones-lt n) (λ i l. has-full n i
 
 -- ---- which of the first n numbers are in a complement, a meet, a union and so on
 
-or-has : (S T i : ℕ) → has (bitOr S T) i ≡ (has S i || has T i)
+pub or-has : (S T i : ℕ) → has (bitOr S T) i ≡ (has S i || has T i)
 or-has S T i =
     alike (has (bitOr S T) i) (has S i || has T i) (λ e. joined (has S i) (has T i) (has-or S T i .0 e))
     (λ e. has-or S T i .1 (either (has S i) (has T i) e))
@@ -96,8 +89,13 @@ or-has S T i =
     either true b e = inl refl
     either false b e = inr e
 
+pub and-has : (S T i : ℕ) → has (bitAnd S T) i ≡ (has S i && has T i)
+and-has S T i =
+    alike (has (bitAnd S T) i) (has S i && has T i) (λ e. and-eq-true-iff (has S i) (has T i) .1 (has-and S T i .0 e))
+    (λ e. has-and S T i .1 (and-eq-true-iff (has S i) (has T i) .0 e))
+
 module _ (n S : ℕ) (h : S < 2 ^ n) where
-  rest-has : (i : ℕ) → i < n → has (full n - S) i ≡ not (has S i)
+  pub rest-has : (i : ℕ) → i < n → has (full n - S) i ≡ not (has S i)
   rest-has i l =
       alike (has (full n - S) i) (not (has S i)) (λ e. lacks (has S i) (has-rest n S i h .0 e .1))
       (λ e. has-rest n S i h .1 (l, λ m. false≢true (sym (ap not m) ∙ e)))
@@ -111,13 +109,7 @@ module _ (n S : ℕ) (h : S < 2 ^ n) where
 
 module _ (n S T : ℕ) (h : S < 2 ^ n) (k : T < 2 ^ n) where
   pub and-setOf : bitAnd S T ≡ setOf n (λ i. has S i && has T i)
-  and-setOf =
-      is-setOf n (bitAnd S T) (λ i. has S i && has T i) (and-lt n S T h k)
-      (λ i l. alike _ _ (λ e. let r = has-and S T i .0 e in rw (r .0, r .1)) (λ e. has-and S T i .1 (both (has S i) (has T i) e)))
-    where
-      both : (a b : Bool) → (a && b) ≡ true → (a ≡ true) × (b ≡ true)
-      both true b e = (refl, e)
-      both false b e = absurd (false≢true e)
+  and-setOf = is-setOf n (bitAnd S T) (λ i. has S i && has T i) (and-lt n S T h k) (λ i l. and-has S T i)
 
   pub or-setOf : bitOr S T ≡ setOf n (λ i. has S i || has T i)
   or-setOf = is-setOf n (bitOr S T) (λ i. has S i || has T i) (or-lt n S T h k) (λ i l. or-has S T i)

@@ -1,15 +1,19 @@
 -- Rule sets as numbers: parts, proper parts, sharing a rule, and the order of the lists.
 -- The laws tie the part and the shared rule to what code computes, and say what the order needs; from the rules that Bit says a number has.
-use Prim.Native.Nat.{ℕ, _-_, _^_, _≤_, _<_}
-use mathlib.Core.Path.{_≡_, refl}
+use Prim.Native.Nat.{ℕ, _+_, _-_, _/_, _%_, _^_, _≤_, _<_}
+use mathlib.Core.Path.{_≡_, refl, sym, ap, _∙_}
 use mathlib.Core.Logic.{_↔_, _≢_, _⊎_, inl, inr, ⊎-elim}
-use mathlib.Core.Bool.{Bool, true}
+use mathlib.Core.Bool.{Bool, true, _&&_, and-eq-true-iff}
 use native.Mathlib.Omega.{arith}
+use native.Mathlib.Decide.{decLt}
+use native.Mathlib.Nat.{mod-lt}
 use lib.Dec.{eqb}
 use lib.Bits.{bitAnd, bitOr, and-le-r}
 use lib.Count.{ones}
+use lib.Pow.{pow-pos}
 use borrow.Author.Tests.{eqb-true, eq-eqb}
-use Rattle.sets.specs.Bit.{has, full, has-and, has-or, has-minus, has-le, has-some, has-below, has-zero, has-full, has-rest, has-one}
+use Rattle.sets.specs.Choice.{alike}
+use Rattle.sets.specs.Bit.{has, full, has-low, has-high, has-and, has-or, has-minus, has-le, has-some, has-below, has-zero, has-full, has-rest, has-one}
 
 infix 50 _⊑_
 -- S is a part of T: every rule of S is a rule of T.
@@ -77,6 +81,32 @@ part-iff S T = (
       (part-antisym (record { every = λ i m. has-and S T i .0 m .0 })
       (record { every = λ i m. has-and S T i .1 (m, p .every i m) })),
 )
+
+-- A part is told by the first n rules, and by the others.
+pub part-split : (n S T : ℕ) → part S T ≡ (part (S / 2 ^ n) (T / 2 ^ n) && part (S % 2 ^ n) (T % 2 ^ n))
+part-split n S T =
+    alike (part S T) (part (S / 2 ^ n) (T / 2 ^ n) && part (S % 2 ^ n) (T % 2 ^ n))
+    (λ e.
+    let p = part-iff S T .0 e in
+    both .1 (
+      part-iff (S / 2 ^ n) (T / 2 ^ n) .1 (record { every = λ i m. has-high n T i ∙ p .every (n + i) (sym (has-high n S i) ∙ m) }),
+      part-iff (S % 2 ^ n) (T % 2 ^ n) .1 (record {
+        every = λ i m.
+            let l = has-below n (S % 2 ^ n) i (mod-lt S (pow-pos n)) m in
+            has-low n T i l ∙ p .every i (sym (has-low n S i l) ∙ m);
+      }),
+    ))
+    (λ e. part-iff S T .1 (record { every = λ i m. told (both .0 e .0) (both .0 e .1) i m (decLt i n) }))
+  where
+    both : ((part (S / 2 ^ n) (T / 2 ^ n) && part (S % 2 ^ n) (T % 2 ^ n)) ≡ true) ↔ ((part (S / 2 ^ n) (T / 2 ^ n) ≡ true) × (part (S % 2 ^ n) (T % 2 ^ n) ≡ true))
+    both = and-eq-true-iff (part (S / 2 ^ n) (T / 2 ^ n)) (part (S % 2 ^ n) (T % 2 ^ n))
+
+    told : part (S / 2 ^ n) (T / 2 ^ n) ≡ true → part (S % 2 ^ n) (T % 2 ^ n) ≡ true → (i : ℕ) → has S i ≡ true → Dec (i < n) → has T i ≡ true
+    told p q i m (yes l) = sym (has-low n T i l) ∙ part-iff (S % 2 ^ n) (T % 2 ^ n) .0 q .every i (has-low n S i l ∙ m)
+    told p q i m (no g) =
+        let e : n + (i - n) ≡ i = omega arith in
+        ap (has T) (sym e) ∙ sym (has-high n T (i - n))
+        ∙ part-iff (S / 2 ^ n) (T / 2 ^ n) .0 p .every (i - n) (has-high n S (i - n) ∙ ap (has S) e ∙ m)
 
 -- Of two sets of R rules, the more is taken away the less is left.
 pub part-rest : (R S T : ℕ) → T < 2 ^ R → S ⊑ T → full R - T ⊑ full R - S

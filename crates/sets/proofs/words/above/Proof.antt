@@ -42,12 +42,13 @@ above-spec =
     (λ c. omega arith)
     (λ c.
     let l = c .before .before .loop in
-    let S = c .before .before .before .args .set in
-    (omega arith,
-    ⊎-elim
-    (λ w. rw (w .2) (kept (lacking S) (l .i) (l .inv .1) _ (w .1 .ensures ∙ having-kept S (l .i) (eq-eqb _ _ (w .0 .taken)))))
-    (λ w. rw (w .1) (passed (lacking S) (l .i) (l .inv .1) (λ t. rw (ne-eqb _ _ (w .0 .left)))))
-    (c .if1 .came)))
+    let S = c .before .before .before .args .set in (
+      omega arith,
+      ⊎-elim
+          (λ w. rw (w .2) (kept (lacking S) (l .i) (l .inv .1) _ (w .1 .ensures ∙ having-kept S (l .i) (eq-eqb _ _ (w .0 .taken)))))
+          (λ w. rw (w .1) (passed (lacking S) (l .i) (l .inv .1) (λ t. rw (ne-eqb _ _ (w .0 .left)))))
+          (c .if1 .came),
+    ))
     (λ c.
     let end : c .before .loop .i ≡ 6 = omega arith in
     (rw end at (c .before .loop .inv .1)) ∙ all-above _ (c .before .before .pre)))

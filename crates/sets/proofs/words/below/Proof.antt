@@ -41,12 +41,13 @@ below-spec =
     (λ c. omega arith)
     (λ c.
     let l = c .before .before .loop in
-    let S = c .before .before .before .args .set in
-    (omega arith,
-    ⊎-elim
-    (λ w. rw (w .2) (kept (λ t. lacking t S) (l .i) (l .inv .1) _ (having-dropped S (l .i) _ (ne-eqb (S / 2 ^ l .i % 2) 1 (omega (arith, w .0 .taken))) (w .1 .ensures))))
-    (λ w. rw (w .1) (passed (λ t. lacking t S) (l .i) (l .inv .1) (λ t. rw (eq-eqb (S / 2 ^ l .i % 2) 1 (omega (arith, w .0 .left)), and-false))))
-    (c .if1 .came)))
+    let S = c .before .before .before .args .set in (
+      omega arith,
+      ⊎-elim
+          (λ w. rw (w .2) (kept (λ t. lacking t S) (l .i) (l .inv .1) _ (having-dropped S (l .i) _ (ne-eqb (S / 2 ^ l .i % 2) 1 (omega (arith, w .0 .taken))) (w .1 .ensures))))
+          (λ w. rw (w .1) (passed (λ t. lacking t S) (l .i) (l .inv .1) (λ t. rw (eq-eqb (S / 2 ^ l .i % 2) 1 (omega (arith, w .0 .left)), and-false))))
+          (c .if1 .came),
+    ))
     (λ c.
     let end : c .before .loop .i ≡ 6 = omega arith in
     (rw end at (c .before .loop .inv .1)) ∙ all-below _))
