@@ -1,5 +1,3 @@
 -- What the proofs of several functions use.
-mod Counting
-mod Filling
-mod Marking
+mod Clearing
 mod Writing

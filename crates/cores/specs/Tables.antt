@@ -1,98 +1,40 @@
--- Tables with a mark for each set of at most 16 rules, at the set's number; which sets are marked as least, and as those whose removal breaks.
--- The laws: of the table of a monotone judgement's verdicts these give the core list and the cut list. From lists given entry by entry, and
--- from cores being known by the sets with one rule less.
-use Prim.Native.Nat.{ℕ, _-_, _^_, _≤_, _<_}
-use mathlib.Core.Path.{_≡_, refl, sym, ap, _∙_}
-use mathlib.Core.Bool.{Bool, true, false, not, _&&_}
+-- Tables of sets: bit S % 64 of word S / 64 is the mark of set S.
+-- The laws: what storing one word does to the marks, and what the lists of a table are. From the bits of words and the laws of lists.
+use Prim.Native.Nat.{ℕ, _*_, _/_, _%_, _^_, _≤_, _<_}
+use mathlib.Core.Path.{_≡_, refl, ap, _∙_}
+use mathlib.Core.Bool.{Bool, true, false, cond}
 use mathlib.Core.List.{List}
 use native.Mathlib.Omega.{arith}
-use borrow.Author.Tests.{lt-ltb, ltb-true}
-use lib.Dec.{ltb}
-use lib.ListN.{getD}
-use lib.Pow.{pow-pos, pow-mono}
-use Rattle.sets.specs.Bit.{full}
-use Rattle.sets.specs.Sets.{part-le}
-use Rattle.sets.specs.Cores.{Monotone, breaks, isCore, isCut}
-use Rattle.sets.specs.Lists.{listOf, coresOf, cutsOf}
-use Rattle.sets.specs.Duality.{breaks-monotone}
-use Rattle.sets.specs.Growth.{listOf-agree, coresOf-agree}
-use Rattle.sets.specs.Neighbours.{oneMinimal, oneMinimal-core}
-use Rattle.systems.specs.Tabulated.{tabulate, getD-tabulate, same-entries}
+use native.Mathlib.Decide.{ℕ-discrete}
+use borrow.Author.Tests.{eq-eqb, ne-eqb}
+use lib.Dec.{eqb}
+use lib.ListN.{length, getD, set}
+use lib.Seq.{getD-set-same, getD-set-other}
+use Rattle.sets.specs.Bit.{has}
 
 -- The mark of set S.
-abbrev pub marked : List Bool → ℕ → Bool
-marked table S = getD table S false
+unfoldable pub marked : List ℕ → ℕ → Bool
+marked table S = has (getD table (S / 64) 0) (S % 64)
 
--- The table of the sets below n that pass the test p.
-unfoldable pub tableOf : ℕ → (ℕ → Bool) → List Bool
-tableOf n p = tabulate 65536 (λ S. ltb S n && p S)
-
--- Of a table of R rules: the marked sets that are not marked any more without any one of their rules, and the sets whose removal leaves a
--- set that is not marked.
-unfoldable pub leastOf : ℕ → List Bool → List Bool
-unfolding tableOf
-leastOf R table = tableOf (2 ^ R) (oneMinimal R (marked table))
-
-unfoldable pub dualOf : ℕ → List Bool → List Bool
-unfolding tableOf
-dualOf R table = tableOf (2 ^ R) (breaks R (marked table))
-
--- A table of the verdicts of h on the sets of R rules.
-pub record Verdicts (R : ℕ) (h : ℕ → Bool) (table : List Bool) : Type 0 where
+-- A table that marks, of the sets of R rules, those that pass the test p.
+pub record Marks (R : ℕ) (p : ℕ → Bool) (table : List ℕ) : Type 0 where
   pub few : R ≤ 16
-  pub each : (S : ℕ) → S < 2 ^ R → marked table S ≡ h S
+  pub room : 2 ^ R ≤ 64 * length table
+  pub each : (S : ℕ) → S < 2 ^ R → marked table S ≡ p S
+
+-- A table after a change: f says what has become of a set's mark.
+pub record Changed (f : ℕ → Bool → Bool) (before after : List ℕ) : Type 0 where
+  pub size : length after ≡ length before
+  pub at : (S : ℕ) → S < 64 * length before → marked after S ≡ f S (marked before S)
 
 -- ---- the laws
 
-pub marked-in : (n : ℕ) (p : ℕ → Bool) (S : ℕ) → n ≤ 65536 → S < n → marked (tableOf n p) S ≡ p S
-unfolding tableOf
-marked-in n p S h l = getD-tabulate 65536 (λ S. ltb S n && p S) false S (omega arith) ∙ rw (lt-ltb S n l)
-
--- Tests that agree below n have the same table.
-pub table-agree : (n : ℕ) (p q : ℕ → Bool) → ((S : ℕ) → S < n → p S ≡ q S) → tableOf n p ≡ tableOf n q
-unfolding tableOf
-table-agree n p q h = same-entries 65536 (λ S. ltb S n && p S) (λ S. ltb S n && q S) (λ S _. at S (ltb S n) refl)
+-- One word is stored.
+pub word-stored : (table : List ℕ) (w v : ℕ) → w < length table → (S : ℕ)
+    → marked (set table w v) S ≡ cond (eqb (S / 64) w) (has v (S % 64)) (marked table S)
+unfolding marked
+word-stored table w v h S = at (ℕ-discrete (S / 64) w)
   where
-    at : (S : ℕ) (b : Bool) → ltb S n ≡ b → (b && p S) ≡ (b && q S)
-    at S true e = h S (ltb-true S n e)
-    at S false e = refl
-
--- The table of a test below 2 ^ R is the table of its verdicts.
-pub table-verdicts : (R : ℕ) (p : ℕ → Bool) → R ≤ 16 → Verdicts R p (tableOf (2 ^ R) p)
-table-verdicts R p h = record { few = h; each = λ S l. marked-in (2 ^ R) p S (pow-mono h) l }
-
-module _ (R : ℕ) (h : ℕ → Bool) (table : List Bool) (v : Verdicts R h table) where
-  -- The dual table has the verdicts of the dual judgement.
-  pub dual-verdicts : Verdicts R (breaks R h) (dualOf R table)
-  unfolding dualOf breaks
-  dual-verdicts =
-      record {
-        few = v .few;
-        each = λ S l.
-            table-verdicts R (breaks R (marked table)) (v .few) .each S l
-            ∙ ap not (v .each (full R - S) (omega (arith, pow-pos R)));
-      }
-
-  table-monotone : Monotone R h → Monotone R (marked table)
-  table-monotone mono =
-      record {
-        more = λ S T l p e.
-            v .each T l ∙ mono .more S T l p (sym (v .each S (omega (arith, part-le p))) ∙ e);
-      }
-
-  -- The least sets of a monotone judgement's table are its cores.
-  pub least-cores : Monotone R h → listOf R (marked (leastOf R table)) ≡ coresOf R h
-  unfolding leastOf coresOf
-  least-cores mono =
-      listOf-agree R (marked (leastOf R table)) (isCore (marked table))
-      (λ S l.
-      table-verdicts R (oneMinimal R (marked table)) (v .few) .each S l
-      ∙ oneMinimal-core R (marked table) (table-monotone mono) S l)
-      ∙ coresOf-agree R (marked table) h (v .each)
-
--- The least sets of the dual table are its cuts.
-pub least-cuts : (R : ℕ) (h : ℕ → Bool) (table : List Bool) → Verdicts R h table → Monotone R h
-    → listOf R (marked (leastOf R (dualOf R table))) ≡ cutsOf R h
-unfolding coresOf cutsOf isCore isCut
-least-cuts R h table v mono =
-    least-cores R (breaks R h) (dualOf R table) (dual-verdicts R h table v) (breaks-monotone R h mono)
+    at : Dec (S / 64 ≡ w) → has (getD (set table w v) (S / 64) 0) (S % 64) ≡ cond (eqb (S / 64) w) (has v (S % 64)) (has (getD table (S / 64) 0) (S % 64))
+    at (yes e) = rw (eq-eqb (S / 64) w e) (ap (λ (x : ℕ). has x (S % 64)) (rw e (getD-set-same table w v 0 h)))
+    at (no n) = rw (ne-eqb (S / 64) w n) (ap (λ (x : ℕ). has x (S % 64)) (getD-set-other table w (S / 64) v 0 n))

@@ -1,5 +1,4 @@
-// Core list and cut list of a table of verdicts.
+// All cores, all cuts and MUST of a judgement by tables, and the lists of sets in lent bytes.
 pub mod listing;
-mod marks;
 pub mod seeds;
-pub mod verdicts;
+pub mod tables;

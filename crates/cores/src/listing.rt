@@ -4,41 +4,25 @@ ghost use Prim.Native.Nat.{_*_, _^_, _≤_};
 ghost use lib.Dec.{eqb};
 ghost use lib.ListN.{length};
 ghost use lib.Count.{ones};
-ghost use Rattle.sets.specs.Lists.{oneIf, select, listOf, bytesOf, overwritten};
+ghost use Rattle.sets.specs.Lists.{oneIf, select, bytesOf, overwritten};
 ghost use Rattle.cores.specs.Tables.{marked};
 ghost use Rattle.cores.specs.Sorted.{ofSize, sorted};
 ghost use Rattle.cores.specs.Written.{Gathered, Written};
 use sets::ruleset::RuleSet;
 
-// How many sets the list has.
-pub fn count(members: &[bool; 65536], rules: usize) -> usize
-    requires { ⌜ rules ≤ 16 ⌝ }
-    ensures { λ r. ⌜ r ≡ length (listOf rules (marked (now (members .entry)))) ⌝ }
+// Puts the marked sets in front in `found`, by number, and says how many there are.
+pub fn gather(table: &[u64], rules: usize, found: &mut [u16]) -> usize
+    requires { ⌜ (rules ≤ 16) × (2 ^ rules ≤ 64 * length (now table)) ⌝ }
+    requires { ⌜ 2 ^ rules ≤ length (now found) ⌝ }
+    ensures { λ r. ⌜ Gathered (select (marked (now (table .entry))) (2 ^ rules)) (now (found .exit)) r ⌝ }
 {
     let end = sets::ruleset::set_count(rules);
     let mut n = 0;
-    let mut s = 0;
-    while s < end {
-        n += members[s] as usize;
-        s += 1;
-    }
-    n
-}
-
-// Puts the marked sets in front in `found`, by number, and says how many there are. Storing every set and going on only past a marked one
-// spares a branch.
-fn gather(members: &[bool; 65536], rules: usize, found: &mut [u16; 65536]) -> usize
-    requires { ⌜ rules ≤ 16 ⌝ }
-    requires { ⌜ length (now found) ≡ 65536 ⌝ }
-    ensures { λ r. ⌜ Gathered (select (marked (now (members .entry))) (2 ^ rules)) (now (found .exit)) r ⌝ }
-{
-    let end = sets::ruleset::set_count(rules);
-    let mut n = 0;
-    let mut s = 0;
+    let mut s = crate::tables::next_marked(table, 0, end);
     while s < end {
         found[n] = s as u16;
-        n += members[s] as usize;
-        s += 1;
+        n += 1;
+        s = crate::tables::next_marked(table, s + 1, end);
     }
     n
 }
@@ -71,8 +55,8 @@ fn write_sized(found: &[u16], size: usize, lent: &mut [u8]) -> usize
     at
 }
 
-// Writes the sets to the front of the lent bytes, fewer rules first.
-fn write_sorted(found: &[u16], rules: usize, lent: &mut [u8])
+// Writes the sets over the front of the lent bytes, fewer rules first.
+pub fn write_sorted(found: &[u16], rules: usize, lent: &mut [u8])
     requires { ⌜ rules ≤ 16 ⌝ }
     requires { ⌜ 2 * length (sorted rules (now found)) ≤ length (now lent) ⌝ }
     ensures { λ _. ⌜
@@ -84,16 +68,4 @@ fn write_sorted(found: &[u16], rules: usize, lent: &mut [u8])
         at += write_sized(found, size, &mut lent[at..]);
         size += 1;
     }
-}
-
-// Writes the list over the front of the lent bytes.
-pub fn write(members: &[bool; 65536], rules: usize, lent: &mut [u8])
-    requires { ⌜ rules ≤ 16 ⌝ }
-    requires { ⌜ 2 * length (listOf rules (marked (now members))) ≤ length (now lent) ⌝ }
-    ensures { λ _. ⌜
-        now (lent .exit) ≡ overwritten (bytesOf (listOf rules (marked (now (members .entry))))) (now (lent .entry)) ⌝ }
-{
-    let mut found = [0u16; 65536];
-    let n = gather(members, rules, &mut found);
-    write_sorted(&found[..n], rules, lent);
 }

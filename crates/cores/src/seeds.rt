@@ -1,14 +1,17 @@
-// The table of verdicts of all sets with few judgements. A set of which nothing is known yet is a seed: it is made as small, or as large, as
-// its verdict allows, so that one judgement settles as many sets as it can. How far a seed gets makes no difference to the table.
+// All cores and all cuts with few judgements. A set of which nothing is known yet is open, and the first open set by number is the seed. One
+// that holds is a core, since its parts have smaller numbers and are known to be broken. A broken one grows while it stays broken, and what
+// it then lacks is a cut. So one judgement settles as many sets as it can, and no set of which something is known is judged.
 ghost use mathlib.Core.Path.{_≡_};
-ghost use mathlib.Core.Bool.{true, false};
-ghost use Prim.Native.Nat.{_^_, _≤_, _<_};
-ghost use Rattle.sets.specs.Bit.{full};
-ghost use Rattle.sets.specs.Cores.{Monotone};
+ghost use mathlib.Core.Bool.{true, false, not, _&&_};
+ghost use Prim.Native.Nat.{_*_, _^_, _≤_, _<_};
+ghost use lib.ListN.{length};
+ghost use Rattle.sets.specs.Bit.{has, full};
+ghost use Rattle.sets.specs.Sets.{with};
+ghost use Rattle.sets.specs.Cores.{Monotone, isCore, isCut};
 ghost use Rattle.sets.specs.Lists.{mustOf};
-ghost use Rattle.cores.specs.Tables.{tableOf};
-ghost use Rattle.cores.specs.Known.{Known};
-ghost use Rattle.cores.specs.Seeds.{judgedBy, Shrunk, Grown, Advanced};
+ghost use Rattle.systems.specs.Tabled.{Fits};
+ghost use Rattle.cores.specs.Tables.{marked, Marks};
+ghost use Rattle.cores.specs.Seeds.{judgedBy, Seed, Growable, Grown, Going, Settled};
 use sets::ruleset::RuleSet;
 
 // Whether a set holds.
@@ -19,124 +22,123 @@ fn judged(
     states: usize,
     set: RuleSet,
 ) -> bool
-    requires { ⌜ states ≤ 128 ⌝ }
+    requires { ⌜ Fits (now masks) states ⌝ }
     ensures { λ r. ⌜ r ≡ judgedBy (now (masks .entry)) starts bads states (set .0) ⌝ }
 {
     systems::judging::is_held(masks, starts, bads, states, set.0)
 }
 
-// A part of a set that holds which holds too: rules are dropped one by one while it does.
-fn shrink(
+// Whether a rule can be added to a broken set so that it stays broken. If something is known of the larger set it is that it holds, so only an
+// open one is judged.
+fn stays_broken(
     masks: &[u16; 16384],
     starts: [bool; 128],
     bads: [bool; 128],
     states: usize,
-    rules: usize,
+    unknown: &[u64],
     set: RuleSet,
-) -> RuleSet
-    requires { ⌜ states ≤ 128 ⌝ }
-    requires { ⌜ rules ≤ 16 ⌝ }
-    requires { ⌜ judgedBy (now masks) starts bads states (set .0) ≡ true ⌝ }
-    ensures { λ r. ⌜ Shrunk (judgedBy (now (masks .entry)) starts bads states) (set .0) (r .0) ⌝ }
+    rule: usize,
+) -> bool
+    requires { ⌜ Fits (now masks) states ⌝ }
+    requires { ⌜ rule < 16 ⌝ }
+    requires { ⌜ with (set .0) rule < 64 * length (now unknown) ⌝ }
+    ensures { λ r. ⌜ r ≡
+        (not (has (set .0) rule) && (marked (now (unknown .entry)) (with (set .0) rule) && not (judgedBy (now (masks .entry)) starts bads states (with (set .0) rule)))) ⌝ }
 {
-    let mut least = set;
-    let mut i = 0;
-    while i < rules {
-        let less = least.without(i);
-        // a rule that is not in the set need not be judged
-        if least.has(i) && judged(masks, starts, bads, states, less) {
-            least = less;
-        }
-        i += 1;
+    let more = set.with(rule);
+    if set.has(rule) {
+        return false;
     }
-    least
+    if !crate::tables::is_marked(unknown, more) {
+        return false;
+    }
+    !judged(masks, starts, bads, states, more)
 }
 
-// A broken set above a broken set: rules are added one by one while it stays broken.
+// A broken set above the seed to which no rule can be added so that it stays broken: they are added one by one.
 fn grow(
     masks: &[u16; 16384],
     starts: [bool; 128],
     bads: [bool; 128],
     states: usize,
     rules: usize,
-    set: RuleSet,
+    unknown: &[u64],
+    seed: RuleSet,
 ) -> RuleSet
-    requires { ⌜ states ≤ 128 ⌝ }
-    requires { ⌜ rules ≤ 16 ⌝ }
-    requires { ⌜ judgedBy (now masks) starts bads states (set .0) ≡ false ⌝ }
-    requires { ⌜ set .0 < 2 ^ rules ⌝ }
-    ensures { λ r. ⌜ Grown rules (judgedBy (now (masks .entry)) starts bads states) (set .0) (r .0) ⌝ }
+    requires { ⌜ Fits (now masks) states ⌝ }
+    requires { ⌜ Monotone rules (judgedBy (now masks) starts bads states) ⌝ }
+    requires { ⌜ (rules ≤ 16) × (2 ^ rules ≤ 64 * length (now unknown)) ⌝ }
+    requires { ⌜ Growable rules (judgedBy (now masks) starts bads states) (marked (now unknown)) (seed .0) ⌝ }
+    ensures { λ r. ⌜ Grown rules (judgedBy (now (masks .entry)) starts bads states) (seed .0) rules (r .0) ⌝ }
 {
-    let mut most = set;
+    let mut most = seed;
     let mut i = 0;
     while i < rules {
-        let more = most.with(i);
-        // a rule that is in the set already need not be judged
-        if !most.has(i) && !judged(masks, starts, bads, states, more) {
-            most = more;
+        if stays_broken(masks, starts, bads, states, unknown, most, i) {
+            most = most.with(i);
         }
         i += 1;
     }
     most
 }
 
-// Judges the seed, and marks what that says of it and of other sets.
+// Judges the seed, and notes the core or the cut that it leads to and what that says of other sets.
 fn settle(
     masks: &[u16; 16384],
     starts: [bool; 128],
     bads: [bool; 128],
     states: usize,
     rules: usize,
-    known: &mut [u8; 65536],
+    unknown: &mut [u64],
+    cores: &mut [u64],
+    cuts: &mut [u64],
     seed: RuleSet,
 )
-    requires { ⌜ states ≤ 128 ⌝ }
+    requires { ⌜ Fits (now masks) states ⌝ }
     requires { ⌜ Monotone rules (judgedBy (now masks) starts bads states) ⌝ }
-    requires { ⌜ Known rules (judgedBy (now masks) starts bads states) (now known) ⌝ }
-    requires { ⌜ seed .0 < 2 ^ rules ⌝ }
-    ensures { λ _.
-        ⌜ Advanced rules (judgedBy (now (masks .entry)) starts bads states) (seed .0) (now (known .entry)) (now (known .exit)) ⌝ }
+    requires { ⌜ Going rules (judgedBy (now masks) starts bads states) (now unknown) (now cores) (now cuts) ⌝ }
+    requires { ⌜ Seed rules (marked (now unknown)) (seed .0) ⌝ }
+    ensures { λ _. ⌜ Settled rules (judgedBy (now (masks .entry)) starts bads states) (seed .0)
+        (now (unknown .entry)) (now (unknown .exit)) (now (cores .exit)) (now (cuts .exit)) ⌝ }
 {
     if judged(masks, starts, bads, states, seed) {
-        let least = shrink(masks, starts, bads, states, rules, seed);
-        crate::marks::mark_above(known, rules, least);
+        crate::tables::clear_above(unknown, seed);
+        crate::tables::mark(cores, seed);
     } else {
-        let most = grow(masks, starts, bads, states, rules, seed);
-        crate::marks::mark_below(known, most);
+        let most = grow(masks, starts, bads, states, rules, unknown, seed);
+        crate::tables::clear_below(unknown, most);
+        crate::tables::mark(cuts, RuleSet(RuleSet::full(rules).0 - most.0));
     }
 }
 
-// The table of the sets that hold.
-pub fn verdicts_of(
+// Marks the cores and the cuts. Every set is open when it is called, and no core or cut is marked.
+pub fn find(
     masks: &[u16; 16384],
     starts: [bool; 128],
     bads: [bool; 128],
     states: usize,
     rules: usize,
-) -> [bool; 65536]
-    requires { ⌜ states ≤ 128 ⌝ }
-    requires { ⌜ rules ≤ 16 ⌝ }
+    unknown: &mut [u64],
+    cores: &mut [u64],
+    cuts: &mut [u64],
+)
+    requires { ⌜ Fits (now masks) states ⌝ }
     requires { ⌜ Monotone rules (judgedBy (now masks) starts bads states) ⌝ }
-    ensures { λ r. ⌜ r ≡ tableOf (2 ^ rules) (judgedBy (now (masks .entry)) starts bads states) ⌝ }
+    requires { ⌜ Marks rules (λ S. true) (now unknown) ⌝ }
+    requires { ⌜ Marks rules (λ S. false) (now cores) ⌝ }
+    requires { ⌜ Marks rules (λ S. false) (now cuts) ⌝ }
+    ensures { λ _. ⌜ Marks rules (isCore (judgedBy (now (masks .entry)) starts bads states)) (now (cores .exit)) ⌝ }
+    ensures { λ _. ⌜ Marks rules (isCut rules (judgedBy (now (masks .entry)) starts bads states)) (now (cuts .exit)) ⌝ }
 {
     let end = sets::ruleset::set_count(rules);
-    let mut known = [0u8; 65536];
-    let mut s = 0;
+    let mut s = crate::tables::next_marked(unknown, 0, end);
     while s < end {
-        if known[s] == 0 {
-            settle(
-                masks,
-                starts,
-                bads,
-                states,
-                rules,
-                &mut known,
-                RuleSet(s as u16),
-            );
-        }
-        s += 1;
+        let seed = RuleSet(s as u16);
+        settle(
+            masks, starts, bads, states, rules, unknown, cores, cuts, seed,
+        );
+        s = crate::tables::next_marked(unknown, s + 1, end);
     }
-    crate::marks::held(&known, rules)
 }
 
 // The rules without which the full set, which holds, is broken: those that can be spared are dropped. One judgement for each rule.
@@ -148,7 +150,7 @@ fn needed(
     rules: usize,
     all: RuleSet,
 ) -> RuleSet
-    requires { ⌜ states ≤ 128 ⌝ }
+    requires { ⌜ Fits (now masks) states ⌝ }
     requires { ⌜ rules ≤ 16 ⌝ }
     requires { ⌜ Monotone rules (judgedBy (now masks) starts bads states) ⌝ }
     requires { ⌜ all .0 ≡ full rules ⌝ }
@@ -176,7 +178,7 @@ pub fn must_of(
     states: usize,
     rules: usize,
 ) -> RuleSet
-    requires { ⌜ states ≤ 128 ⌝ }
+    requires { ⌜ Fits (now masks) states ⌝ }
     requires { ⌜ rules ≤ 16 ⌝ }
     requires { ⌜ Monotone rules (judgedBy (now masks) starts bads states) ⌝ }
     ensures { λ r. ⌜ r .0 ≡ mustOf rules (judgedBy (now (masks .entry)) starts bads states) ⌝ }
