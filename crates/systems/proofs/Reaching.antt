@@ -2,7 +2,7 @@
 -- is bad or no row is left. From the laws of walks and the meaning of the verdict. Assumes nothing.
 use Prim.Native.Nat.{ℕ, _+_, _-_, _*_, _%_, _≤_, _<_}
 use mathlib.Core.Path.{_≡_, refl, sym, ap, subst, _∙_}
-use mathlib.Core.Logic.{_⊎_, _≢_, inl, inr, ⊎-elim}
+use mathlib.Core.Logic.{_⊎_, inl, inr, ⊎-elim}
 use mathlib.Core.Bool.{Bool, true, false, not, _&&_, _||_, or-false, true≢false}
 use mathlib.Core.List.{List}
 use mathlib.Mathlib.Data.Bool.Basic.{or-inl, or-inr, eq-false-of-not-eq-true}

@@ -1,7 +1,7 @@
 -- What the arrays of a search hold, step by step: the run at each place, what a mark more changes, and that a row of states tried one by one
 -- stores the runs of `tryRow`. From the definitions and the laws of lists, of counts and of the search. Assumes nothing.
 use Prim.Native.Nat.{ℕ, zero, suc, _+_, _≤_, _<_}
-use mathlib.Core.Path.{_≡_, refl, sym, ap, ap₂, _∙_}
+use mathlib.Core.Path.{_≡_, refl, sym, ap, ap₂, subst, _∙_}
 use mathlib.Core.Logic.{⊎-elim}
 use mathlib.Core.Bool.{Bool, true, false, not, cond, _&&_, _||_, or-false, and-eq-true-iff}
 use mathlib.Core.List.{List, [], _∷_, _++_}
@@ -17,10 +17,10 @@ use Rattle.systems.specs.declared.runs.Reached.{Reached}
 use Rattle.systems.specs.declared.runs.Runs.{Runs}
 use Rattle.systems.specs.Count.{count, count-le, count-none, count-more, count-one-more}
 use Rattle.systems.specs.System.{System, last}
-use Rattle.systems.specs.Walks.{last-snoc}
+use Rattle.systems.specs.Walks.{last-snoc, walk-last}
 use Rattle.systems.specs.Search.{isMarked, tryState, tryRow, explored, search}
 use Rattle.systems.specs.SearchSteps.{isMarked-nil, isMarked-snoc, tryRow-zero, tryRow-next, explored-next}
-use Rattle.systems.specs.SearchLaws.{explored-short, search-ended}
+use Rattle.systems.specs.SearchLaws.{explored-found, explored-short, search-ended}
 use Rattle.systems.specs.Stored.{runsTo, runsIn, noRuns, withRun, Sound, Stores, marksTo, reachedOf, length-marks, getD-marks}
 
 -- ---- the run at a place
@@ -271,6 +271,12 @@ module _ (M : System) (i : ℕ) {x : Runs} (a : Stores (explored M i) x) where
 
   pub stores-short : x .count ≤ M .size
   stores-short = omega (arith, stored-length, explored-short M i)
+
+  -- Every run ends in a state of the system.
+  pub stores-state : (k : ℕ) → k < x .count → getD (x .order) k 0 < M .size
+  stores-state k h =
+      subst (λ s. s < M .size) (ap (λ q. last (getD q k [])) (sym (a .runs)) ∙ sound-last (a .sound) k h)
+      (walk-last (getD (explored M i) k []) (explored-found M i .runs k (omega (arith, stored-length))))
 
   -- Where the run at place i has been tried with every state, one run more has been explored.
   pub stores-next : {y : Runs} → i < x .count

@@ -1,5 +1,5 @@
 -- The tables of a model, as code holds them: the marks of states, and for each pair of states its mask, the set of the rules that it meets.
--- The laws read an entry, and say that a pair is a step of a set exactly when the set is a part of its mask. From `Meaning`, and the rules
+-- The masks go over the list that was lent for them. The laws read an entry, and say that a pair is a step of a set exactly when the set is a part of its mask. From `Meaning`, and the rules
 -- that a number has. Assumes nothing.
 use Prim.Native.Nat.{ℕ, _+_, _*_, _/_, _%_, _^_, _≤_, _<_}
 use mathlib.Core.Path.{_≡_, refl, sym, _∙_}
@@ -37,18 +37,19 @@ unfoldable pub maskOf : List ℕ → Model → ℕ → ℕ → ℕ
 unfolding setOf ruleMet
 maskOf text m s t = setOf (m .rules) (λ i. ruleMet text m i s t)
 
--- A table of pairs, 16,384 entries: f s t at 128 * s + t for s below `rows` and t below n, and 0 elsewhere.
-unfoldable pub entryOf : ℕ → ℕ → (ℕ → ℕ → ℕ) → ℕ → ℕ
-entryOf rows n f k = cond (ltb (k / 128) rows && ltb (k % 128) n) (f (k / 128) (k % 128)) 0
+-- A table of pairs over what was there before: f s t at 128 * s + t for s below `rows` and t below n. Entries that belong to no pair stay as
+-- they were.
+unfoldable pub entryOf : (before : List ℕ) (rows n : ℕ) (f : ℕ → ℕ → ℕ) → ℕ → ℕ
+entryOf before rows n f k = cond (ltb (k / 128) rows && ltb (k % 128) n) (f (k / 128) (k % 128)) (getD before k 0)
 
-unfoldable pub pairsOf : ℕ → ℕ → (ℕ → ℕ → ℕ) → List ℕ
+unfoldable pub pairsOf : (before : List ℕ) (rows n : ℕ) (f : ℕ → ℕ → ℕ) → List ℕ
 unfolding entryOf
-pairsOf rows n f = tabulate 16384 (entryOf rows n f)
+pairsOf before rows n f = tabulate (length before) (entryOf before rows n f)
 
--- The masks of all pairs of states.
-unfoldable pub masksOf : List ℕ → Model → List ℕ
+-- The masks of all pairs of states, over what was there before.
+unfoldable pub masksOf : (before text : List ℕ) → Model → List ℕ
 unfolding pairsOf maskOf
-masksOf text m = pairsOf (2 ^ m .vars) (2 ^ m .vars) (maskOf text m)
+masksOf before text m = pairsOf before (2 ^ m .vars) (2 ^ m .vars) (maskOf text m)
 
 -- ---- an answer of `exprs::value::value`
 
@@ -109,24 +110,29 @@ module _ (text : List ℕ) (m : Model) (s t : ℕ) where
 
 -- ---- a table of pairs
 
-module _ (rows n : ℕ) (f : ℕ → ℕ → ℕ) where
-  pub length-pairs : length (pairsOf rows n f) ≡ 16384
+module _ (before : List ℕ) (rows n : ℕ) (f : ℕ → ℕ → ℕ) where
+  pub length-pairs : length (pairsOf before rows n f) ≡ length before
   unfolding pairsOf
-  length-pairs = length-tabulate 16384 (entryOf rows n f)
+  length-pairs = length-tabulate (length before) (entryOf before rows n f)
 
-  pub entry-at : (s t : ℕ) → s < rows → t < n → n ≤ 128 → entryOf rows n f (128 * s + t) ≡ f s t
+  pub entry-at : (s t : ℕ) → s < rows → t < n → n ≤ 128 → entryOf before rows n f (128 * s + t) ≡ f s t
   unfolding entryOf
   entry-at s t a b c =
       let e : (128 * s + t) / 128 ≡ s = omega arith in
       let g : (128 * s + t) % 128 ≡ t = omega arith in
       rw (e, g, lt-ltb s rows a, lt-ltb t n b)
 
-  pub pair-at : (s t : ℕ) → s < rows → rows ≤ 128 → t < n → n ≤ 128 → getD (pairsOf rows n f) (128 * s + t) 0 ≡ f s t
+  pub pair-at : 128 * rows ≤ length before → (s t : ℕ) → s < rows → t < n → n ≤ 128 → getD (pairsOf before rows n f) (128 * s + t) 0 ≡ f s t
   unfolding pairsOf
-  pair-at s t a b c d = getD-tabulate 16384 (entryOf rows n f) 0 (128 * s + t) (omega arith) ∙ entry-at s t a c d
+  pair-at room s t a b c = getD-tabulate (length before) (entryOf before rows n f) 0 (128 * s + t) (omega arith) ∙ entry-at s t a b c
 
-module _ (text : List ℕ) (m : Model) where
-  -- The entry of a pair of states is its mask.
-  pub mask-at : (s t : ℕ) → m .vars ≤ 7 → s < 2 ^ m .vars → t < 2 ^ m .vars → getD (masksOf text m) (128 * s + t) 0 ≡ maskOf text m s t
+module _ (before text : List ℕ) (m : Model) where
+  pub length-masks : length (masksOf before text m) ≡ length before
   unfolding masksOf
-  mask-at s t v a b = let few : 2 ^ m .vars ≤ 128 = pow-mono v in pair-at (2 ^ m .vars) (2 ^ m .vars) (maskOf text m) s t a few b few
+  length-masks = length-pairs before (2 ^ m .vars) (2 ^ m .vars) (maskOf text m)
+
+  -- The entry of a pair of states is its mask.
+  pub mask-at : 128 * 2 ^ m .vars ≤ length before → (s t : ℕ) → m .vars ≤ 7 → s < 2 ^ m .vars → t < 2 ^ m .vars
+      → getD (masksOf before text m) (128 * s + t) 0 ≡ maskOf text m s t
+  unfolding masksOf
+  mask-at room s t v a b = pair-at before (2 ^ m .vars) (2 ^ m .vars) (maskOf text m) room s t a b (pow-mono v)

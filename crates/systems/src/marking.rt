@@ -4,6 +4,7 @@ ghost use Prim.Native.Nat.{_≤_, _<_};
 ghost use mathlib.Core.Path.{_≡_};
 ghost use lib.ListN.{length, getD};
 ghost use Rattle.systems.specs.Least.{any};
+ghost use Rattle.systems.specs.Tabled.{Fits};
 ghost use Rattle.systems.specs.Marks.{FirstMarks, RowMarked, RowWalked, NextFrom, NextAny, isHit, isOpen};
 
 // The start states are reached, and no row has been walked.
@@ -74,20 +75,14 @@ fn mark_row(row: &[u16], set: u16, marks: &mut [u16; 128])
 }
 
 // The row of state s is walked.
-pub(crate) fn walk_row(
-    masks: &[u16; 16384],
-    states: usize,
-    set: u16,
-    s: usize,
-    marks: &mut [u16; 128],
-)
-    requires { ⌜ (states ≤ 128) × (s < states) × (length (now marks) ≡ 128) ⌝ }
+pub(crate) fn walk_row(masks: &[u16], states: usize, set: u16, s: usize, marks: &mut [u16; 128])
+    requires { ⌜ Fits (now masks) states ⌝ }
+    requires { ⌜ (s < states) × (length (now marks) ≡ 128) ⌝ }
     ensures { λ _.
         ⌜ RowWalked (now (masks .entry)) states set s (now (marks .entry)) (now (marks .exit)) ⌝ }
 {
     let from = 128 * s;
     let to = from + states;
-    let rows = &masks[..];
     marks[s] = marks[s] | 2;
-    mark_row(&rows[from..to], set, marks);
+    mark_row(&masks[from..to], set, marks);
 }

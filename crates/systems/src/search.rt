@@ -4,7 +4,7 @@ ghost use mathlib.Core.List.{[]};
 ghost use Prim.Native.Nat.{_<_, _≤_};
 ghost use lib.ListN.{getD};
 ghost use Rattle.systems.specs.Search.{tryRow, search};
-ghost use Rattle.systems.specs.Tabled.{marked, stepIn, tabled};
+ghost use Rattle.systems.specs.Tabled.{marked, stepIn, Fits, tabled};
 ghost use Rattle.systems.specs.Stored.{runsIn, Sound, Stores, reachedOf};
 use crate::runs::Reached;
 use crate::runs::Runs;
@@ -30,11 +30,11 @@ fn find_starts(starts: [bool; 128], states: usize) -> Runs
     x
 }
 
-// The run at place i is tried with every state, by number.
-fn try_row(masks: &[u16; 16384], states: usize, set: u16, i: usize, x: Runs) -> Runs
-    requires { ⌜ states ≤ 128 ⌝ }
+// The run at place i is tried with every state, by number. The masks have the rows of the states alone, so it has to end in one of them.
+fn try_row(masks: &[u16], states: usize, set: u16, i: usize, x: Runs) -> Runs
+    requires { ⌜ Fits (now masks) states ⌝ }
     requires { ⌜ Sound x ⌝ }
-    requires { ⌜ i < x .count ⌝ }
+    requires { ⌜ (i < x .count) × (getD (x .order) i 0 < states) ⌝ }
     ensures { λ r.
         ⌜ Stores (tryRow (stepIn (now (masks .entry)) set (getD (x .order) i 0)) (getD (runsIn x) i []) states (runsIn x)) r ⌝ }
 {
@@ -51,8 +51,8 @@ fn try_row(masks: &[u16; 16384], states: usize, set: u16, i: usize, x: Runs) -> 
 }
 
 // Every run is tried once, in the order of marking.
-pub(crate) fn explore(masks: &[u16; 16384], starts: [bool; 128], states: usize, set: u16) -> Runs
-    requires { ⌜ states ≤ 128 ⌝ }
+pub(crate) fn explore(masks: &[u16], starts: [bool; 128], states: usize, set: u16) -> Runs
+    requires { ⌜ Fits (now masks) states ⌝ }
     ensures { λ r. ⌜ Stores (search (tabled (now (masks .entry)) starts [] states set)) r ⌝ }
 {
     let mut x = find_starts(starts, states);
@@ -65,8 +65,8 @@ pub(crate) fn explore(masks: &[u16; 16384], starts: [bool; 128], states: usize, 
 }
 
 // The reached states, whichever of them are bad.
-pub fn reached(masks: &[u16; 16384], starts: [bool; 128], states: usize, set: u16) -> Reached
-    requires { ⌜ states ≤ 128 ⌝ }
+pub fn reached(masks: &[u16], starts: [bool; 128], states: usize, set: u16) -> Reached
+    requires { ⌜ Fits (now masks) states ⌝ }
     ensures { λ r. ⌜ r ≡ reachedOf (tabled (now (masks .entry)) starts [] states set) ⌝ }
 {
     let x = explore(masks, starts, states, set);

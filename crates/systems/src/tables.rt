@@ -136,13 +136,14 @@ fn fill_row(text: &[u8], m: Model, s: usize, row: &mut [u16])
     }
 }
 
-// The masks of all pairs of states, that of (s, t) at 128 * s + t.
-pub fn pair_masks(text: &[u8], m: Model) -> [u16; 16384]
+// The masks of all pairs of states, that of (s, t) at 128 * s + t. The caller lends the room for them, which may be shorter for small models:
+// an array by value would be copied, and every entry cleared first.
+pub fn fill_masks(text: &[u8], m: Model, masks: &mut [u16])
     requires { ⌜ (m .vars ≤ 7) × (m .rules ≤ 16) ⌝ }
-    ensures { λ r. ⌜ r ≡ masksOf (now (text .entry)) m ⌝ }
+    requires { ⌜ 128 * 2 ^ m .vars ≤ length (now masks) ⌝ }
+    ensures { λ _. ⌜ now (masks .exit) ≡ masksOf (now (masks .entry)) (now (text .entry)) m ⌝ }
 {
     let states = state_count(m.vars);
-    let mut masks = [0u16; 16384];
     let mut s = 0;
     while s < states {
         let from = 128 * s;
@@ -150,5 +151,4 @@ pub fn pair_masks(text: &[u8], m: Model) -> [u16; 16384]
         fill_row(text, m, s, &mut masks[from..to]);
         s += 1;
     }
-    masks
 }

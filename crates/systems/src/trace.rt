@@ -1,10 +1,9 @@
 // The trace of a set: the first run that the search finds to a bad state.
 ghost use mathlib.Core.Path.{_≡_};
 ghost use mathlib.Core.List.{[]};
-ghost use Prim.Native.Nat.{_≤_};
 ghost use lib.ListN.{length, getD};
 ghost use Rattle.systems.specs.Least.{least};
-ghost use Rattle.systems.specs.Tabled.{marked, tabled};
+ghost use Rattle.systems.specs.Tabled.{marked, Fits, tabled};
 ghost use Rattle.systems.specs.Stored.{runsIn, Sound};
 ghost use Rattle.systems.specs.Traced.{traceWith, traceIn};
 use crate::runs::Runs;
@@ -63,13 +62,13 @@ fn run_at(x: Runs, j: usize) -> Trace
 }
 
 pub(crate) fn trace_of(
-    masks: &[u16; 16384],
+    masks: &[u16],
     starts: [bool; 128],
     bads: [bool; 128],
     states: usize,
     set: u16,
 ) -> Trace
-    requires { ⌜ states ≤ 128 ⌝ }
+    requires { ⌜ Fits (now masks) states ⌝ }
     ensures { λ r. ⌜ r ≡ traceIn (tabled (now (masks .entry)) starts bads states set) ⌝ }
 {
     let x = crate::search::explore(masks, starts, states, set);

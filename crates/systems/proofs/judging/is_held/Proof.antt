@@ -28,16 +28,16 @@ is-held-spec =
     sym (judging-hit (l .loop .inv) (l .before .before .before .first-marks .ensures) (sym (c .before .is-hit .ensures) ∙ c .if1 .taken)))
     (λ c κs.
     let l = c .before .before .before .before .before in
-    (omega arith, omega arith, l .loop .inv .spread (l .before .before .before .first-marks .ensures) .size))
+    (l .before .before .before .before .before .pre, (omega arith, l .loop .inv .spread (l .before .before .before .first-marks .ensures) .size)))
     (λ c κs. search needs)
     (λ c.
     let i = c .before .before .before .before .before .before .before in
     let f = i .before .before .before .before in
-    judging-less (i .before .loop .inv) (i .loop-test .taken) (sym (c .before .before .before .before .before .is-hit .ensures) ∙ c .before .before .before .before .if1 .left) (f .before .pre)
+    judging-less (i .before .loop .inv) (i .loop-test .taken) (sym (c .before .before .before .before .before .is-hit .ensures) ∙ c .before .before .before .before .if1 .left) (f .before .before .pre .few)
     (c .before .before .walk-row .ensures) (f .first-marks .ensures))
     (λ c.
     let i = c .before .before .before .before .before .before .before in
     let f = i .before .before .before .before in
-    judging-next (i .before .loop .inv) (i .loop-test .taken) (sym (c .before .before .before .before .before .is-hit .ensures) ∙ c .before .before .before .before .if1 .left) (f .before .pre)
+    judging-next (i .before .loop .inv) (i .loop-test .taken) (sym (c .before .before .before .before .before .is-hit .ensures) ∙ c .before .before .before .before .if1 .left) (f .before .before .pre .few)
     (c .before .before .walk-row .ensures) (c .next-round2 .ensures))
     (λ c. sym (judging-ends (c .before .loop .inv) (c .before .before .before .before .first-marks .ensures) (c .loop-test .left))))

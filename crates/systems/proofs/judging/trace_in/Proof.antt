@@ -1,37 +1,28 @@
--- `systems::judging::trace_in` meets its contract: the tables are those of the model, and they give the set the system that it means.
+-- `systems::judging::trace_in` meets its contract: either array has room for the masks.
 -- Assumes nothing.
-use Prim.Native.Nat.{ℕ}
-use mathlib.Core.Path.{_≡_, ap, _∙_}
-use mathlib.Core.Bool.{Bool}
-use mathlib.Core.List.{List}
+use Prim.Native.Nat.{ℕ, _*_, _^_, _≤_}
+use mathlib.Core.Path.{_≡_}
 use native.Mathlib.Omega.{arith}
-use borrow.Author.Needs.{needs}
-use Rattle.systems.specs.Tabled.{tabled}
-use Rattle.systems.specs.TablesTell.{tablesOf, tables-same, states-le}
-use Rattle.systems.specs.Traced.{traceIn, same-traceIn}
+use lib.ListN.{length, replicate, length-replicate}
+use lib.Pow.{pow-mono}
 use Rattle.systems.proofs.judging.trace_in.Statement.{statement}
 use Rattle.systems.proofs.judging.trace_in.Tie as tie
 
--- equal tables give the same system
-rebuilt : {masks masks₁ : List ℕ} {starts starts₁ bads bads₁ : List Bool} {states states₁ : ℕ} (set : ℕ) → masks ≡ masks₁ → starts ≡ starts₁ → bads ≡ bads₁ → states ≡ states₁
-    → tabled masks starts bads states set ≡ tabled masks₁ starts₁ bads₁ states₁ set
-rebuilt set p q r s = cc
+-- over any length, so that no list of zeros is written out
+zeros : (n : ℕ) → length {A = ℕ} (replicate n 0) ≡ n
+zeros n = length-replicate {A = ℕ} n 0
+
+-- so many zeros are enough for models of at most so many letters
+room : (n most : ℕ) {vars : ℕ} → 128 * 2 ^ most ≤ n → vars ≤ most → 128 * 2 ^ vars ≤ length {A = ℕ} (replicate n 0)
+room n most enough few = omega (arith, pow-mono few, zeros n)
 
 pub trace-in-spec : {M : Type 1} → statement M
-unfolding tablesOf
 trace-in-spec =
     tie.close
     (tie.spec
-    (λ c κs. search needs)
-    (λ c κs. search needs)
-    (λ c κs. search needs)
-    (λ c κs. search needs)
-    (λ c κs.
-    let a = c .before .before .before .before .before .before in
-    omega (arith, c .before .state-count .ensures, states-le (a .args .m .vars) (a .pre .0 .0)))
-    (λ c.
-    let a = c .before .before .before .before .before .before .before in
-    c .trace-of .ensures
-    ∙ ap traceIn
-    (rebuilt (a .args .set) (c .before .before .before .before .before .pair-masks .ensures) (c .before .before .before .before .start-marks .ensures) (c .before .before .before .bad-marks .ensures) (c .before .before .state-count .ensures))
-    ∙ same-traceIn (tables-same (a .args .text .now) (a .args .m) (a .pre .0 .0) (a .args .set) (a .pre .1))))
+    (λ c. zeros 1024)
+    (λ c κs. let p = c .before .before .before .before .pre in (p .0, (p .1, room 1024 3 (omega arith) (omega arith))))
+    (λ c. c .before .trace-with .ensures)
+    (λ c. zeros 16384)
+    (λ c κs. let p = c .before .before .before .before .pre in (p .0, (p .1, room 16384 7 (omega arith) (p .0 .0))))
+    (λ c. c .before .trace-with2 .ensures))

@@ -21,4 +21,4 @@ walk-row-spec =
     (λ c. search needs)
     (λ c. search needs)
     (λ c κs. search needs)
-    (λ c. row-walked _ _ _ _ (omega (arith, c .before .before .before .before .rows .given .0)) (c .mark-row .ensures)))
+    (λ c. row-walked _ _ _ _ (omega arith) (c .mark-row .ensures)))

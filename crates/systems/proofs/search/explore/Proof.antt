@@ -8,7 +8,7 @@ use borrow.Author.Needs.{needs}
 use Rattle.systems.specs.Tabled.{tabled}
 use Rattle.systems.specs.Search.{explored}
 use Rattle.systems.specs.Stored.{Stores}
-use Rattle.systems.proofs.Stored.{stores-short, stores-next, stores-all}
+use Rattle.systems.proofs.Stored.{stores-short, stores-state, stores-next, stores-all}
 use Rattle.systems.proofs.search.explore.Statement.{statement}
 use Rattle.systems.proofs.search.explore.Tie as tie
 
@@ -31,19 +31,22 @@ explore-spec =
     (λ c. λ starts a. a)
     (λ c κs.
     let f = c .before .before .before in
-    (omega arith, (c .before .before .loop .inv (f .before .args .starts) (f .find-starts .ensures) .sound, omega (arith, c .if1 .taken))))
+    let a = f .before .before .args in
+    let l = c .before .before .loop in
+    let s = l .inv (a .starts) (f .find-starts .ensures) in
+    (f .before .before .pre, (s .sound, (omega (arith, c .if1 .taken), stores-state (tabled (a .masks .now) (a .starts) [] (a .states) (a .set)) (l .i) s _ (omega (arith, c .if1 .taken))))))
     (λ c. search needs)
     (λ c.
     let f = c .before .before .before .before in
-    let a = f .before .args in
+    let a = f .before .before .args in
     let l = c .before .before .before .loop in
     omega (arith, stores-short (tabled (a .masks .now) (a .starts) [] (a .states) (a .set)) (l .i) (l .inv (a .starts) (f .find-starts .ensures))))
     (λ c. λ starts b.
-    let a = c .before .before .before .before .before .args in
+    let a = c .before .before .before .before .before .before .args in
     let l = c .before .before .before .loop in
     stores-next (tabled (a .masks .now) starts [] (a .states) (a .set)) (l .i) (l .inv starts b) (c .before .if1 .taken) (c .try-row .ensures))
     (λ c.
     let f = c .before .before .before in
-    let a = f .before .args in
+    let a = f .before .before .args in
     let l = c .before .before .loop in
     stores-all (tabled (a .masks .now) (a .starts) [] (a .states) (a .set)) (l .i) (l .inv (a .starts) (f .find-starts .ensures)) (c .if1 .left)))

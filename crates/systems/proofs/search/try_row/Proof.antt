@@ -12,7 +12,7 @@ use Rattle.systems.proofs.search.try_row.Statement.{statement}
 use Rattle.systems.proofs.search.try_row.Tie as tie
 
 abbrev Inv-loop : tie.InvT-loop
-Inv-loop masks states set i s y₀ t₀ y t = (s < 128) × (t ≤ states) × Row (stepIn masks set s) i (runsIn y₀) t y
+Inv-loop masks states set i s y₀ t₀ y t = (s < states) × (t ≤ states) × Row (stepIn masks set s) i (runsIn y₀) t y
 
 abbrev μ-loop : tie.MeasureT-loop
 μ-loop masks states set i s y₀ t₀ y t = states - t
@@ -24,18 +24,18 @@ try-row-spec =
     (tie.spec
     Inv-loop
     μ-loop
-    (λ c. omega (arith, sound-few (c .pre .1 .0)))
+    (λ c. omega (arith, sound-few (c .before .pre .1 .0)))
     (λ c. search needs)
     (λ c.
-    let p = c .before .pre .1 in
-    (p .0 .states (c .before .args .i) (p .1), omega arith, row-none (p .0) (λ _. p .1)))
+    let p = c .before .before .pre .1 in
+    (p .1 .1, omega arith, row-none (p .0) (λ _. p .1 .0)))
     (λ c. omega arith)
     (λ c. omega arith)
     (λ c. omega arith)
     (λ c. omega arith)
     (λ c. omega arith)
     (λ c κs.
-    let p = c .before .before .before .before .before .before .pre .1 in
+    let p = c .before .before .before .before .before .before .before .pre .1 in
     (row-room (c .before .before .before .before .loop .inv .2) (omega arith) (c .if1 .taken), (omega arith, omega (arith, sound-few (p .0)))))
     (λ c. omega arith)
     (λ c. omega arith)
@@ -49,5 +49,5 @@ try-row-spec =
           (c .if1 .came),
     ))
     (λ c.
-    let end : c .before .loop .t ≡ c .before .before .before .args .states = omega arith in
+    let end : c .before .loop .t ≡ c .before .before .before .before .args .states = omega arith in
     rw end at (c .before .loop .inv .2 .stores)))

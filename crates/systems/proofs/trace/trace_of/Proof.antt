@@ -21,7 +21,7 @@ trace-of-spec =
     (λ c κs. search needs)
     (λ c.
     let e = c .before .before .explore in
-    let a = c .before .before .before .args in
+    let a = c .before .before .before .before .args in
     let M = tabled (a .masks .now) (a .starts) (a .bads) (a .states) (a .set) in
     c .run-at .ensures
     ∙ ap traceWith
