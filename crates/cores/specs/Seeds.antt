@@ -19,7 +19,7 @@ use Rattle.sets.specs.Cores.{Core, Cut, Monotone, isCore, isCut, isCore-iff, is
 use Rattle.sets.specs.Neighbours.{holds-above, broken-below}
 use Rattle.systems.specs.Verdict.{holds}
 use Rattle.systems.specs.Tabled.{tabled}
-use Rattle.cores.specs.Tables.{marked, Changed}
+use Rattle.cores.specs.Tables.{marked, Marks, Changed}
 
 -- Whether the set holds by the tables.
 unfoldable pub judgedBy : (masks : List ℕ) (starts bads : List Bool) (states : ℕ) → ℕ → Bool
@@ -60,7 +60,7 @@ pub record Grown (R : ℕ) (h : ℕ → Bool) (S i T : ℕ) : Type 0 where
 -- The same of tables that have room for the sets of R rules.
 pub record Going (R : ℕ) (h : ℕ → Bool) (unknown cores cuts : List ℕ) : Type 0 where
   pub few : R ≤ 16
-  pub roomOpen : 2 ^ R ≤ 64 * length unknown
+  pub roomUnknown : 2 ^ R ≤ 64 * length unknown
   pub roomCores : 2 ^ R ≤ 64 * length cores
   pub roomCuts : 2 ^ R ≤ 64 * length cuts
   pub found : Found R h (marked unknown) (marked cores) (marked cuts)
@@ -91,7 +91,7 @@ module _ (R : ℕ) (h : ℕ → Bool) (S : ℕ) where
   pub ungrown : h S ≡ false → S < 2 ^ R → Grown R h S 0 S
   ungrown e l = record { broken = e; above = part-refl S; below = l; most = λ j b. absurd (omega arith) }
 
-  with-above : (T i : ℕ) → T ⊑ with T i
+  pub with-above : (T i : ℕ) → T ⊑ with T i
   with-above T i = record { every = λ j m. has-with T i j .1 (inl m) }
 
   pub with-below : (T i : ℕ) → T < 2 ^ R → i < R → with T i < 2 ^ R
@@ -292,3 +292,67 @@ module _ (R : ℕ) (h unknown cores cuts : ℕ → Bool) (f : Found R h unknown 
                   absurd
                   (c .noPart (full R - r .0) (record { within = rw twice at (part-rest R (full R - S) (r .0) (r .1) (r .2)); other = n })
                   (f .areCuts (full R - r .0) (omega (arith, pow-pos R)) (r .3) .itself))
+
+-- ---- the same of the tables
+
+module _ (R : ℕ) (h : ℕ → Bool) (unknown cores cuts : List ℕ) where
+  pub all-unknown : Marks R (λ S. true) unknown → Marks R (λ S. false) cores → Marks R (λ S. false) cuts → Going R h unknown cores cuts
+  all-unknown u c k =
+      record {
+        few = u .few;
+        roomUnknown = u .room;
+        roomCores = c .room;
+        roomCuts = k .room;
+        found = none-found R h (marked unknown) (marked cores) (marked cuts) (u .each) (c .each) (k .each);
+      }
+
+  module _ (g : Going R h unknown cores cuts) where
+    pub none-unknown : ((S : ℕ) → S < 2 ^ R → marked unknown S ≡ false) → Marks R (isCore h) cores × Marks R (isCut R h) cuts
+    none-unknown none = (
+      record { few = g .few; room = g .roomCores; each = all-cores R h (marked unknown) (marked cores) (marked cuts) (g .found) none },
+      record { few = g .few; room = g .roomCuts; each = all-cuts R h (marked unknown) (marked cores) (marked cuts) (g .found) none },
+    )
+
+    module _ (mono : Monotone R h) (S : ℕ) (s : Seed R (marked unknown) S) where
+      pub seed-growable : h S ≡ false → Growable R h (marked unknown) S
+      seed-growable = growable R h mono (marked unknown) (marked cores) (marked cuts) (g .found) S s
+
+      -- the seed holds
+      pub settled-core : {unknown' cores' : List ℕ} → h S ≡ true → Changed (λ T b. b && not (part S T)) unknown unknown'
+          → Changed (λ T b. eqb T S || b) cores cores' → Settled R h S unknown unknown' cores' cuts
+      settled-core {unknown'} {cores'} e u c =
+          record {
+            going = record {
+              few = g .few;
+              roomUnknown = omega (arith, g .roomUnknown, u .size);
+              roomCores = omega (arith, g .roomCores, c .size);
+              roomCuts = g .roomCuts;
+              found = with-core R h mono (marked unknown) (marked cores) (marked cuts) (g .found) S s (marked unknown') (marked cores') at
+                  (λ T l. c .at T (omega (arith, g .roomCores))) e;
+            };
+            itself = at S (s .below) ∙ closed (part S S) (marked unknown S) .1 (inl (part-iff S S .1 (part-refl S)));
+            stays = λ T l n. at T l ∙ closed (part S T) (marked unknown T) .1 (inr n);
+          }
+        where
+          at : (T : ℕ) → T < 2 ^ R → marked unknown' T ≡ (marked unknown T && not (part S T))
+          at T l = u .at T (omega (arith, g .roomUnknown))
+
+      -- the seed is broken, and has grown to M
+      pub settled-cut : {M N : ℕ} {unknown' cuts' : List ℕ} → Grown R h S R M → N ≡ full R - M → Changed (λ T b. b && not (part T M)) unknown unknown'
+          → Changed (λ T b. eqb T N || b) cuts cuts' → Settled R h S unknown unknown' cores cuts'
+      settled-cut {M} {N} {unknown'} {cuts'} m e u k =
+          record {
+            going = record {
+              few = g .few;
+              roomUnknown = omega (arith, g .roomUnknown, u .size);
+              roomCores = g .roomCores;
+              roomCuts = omega (arith, g .roomCuts, k .size);
+              found = with-cut R h mono (marked unknown) (marked cores) (marked cuts) (g .found) S s M m (marked unknown') (marked cuts') at
+                  (λ T l. k .at T (omega (arith, g .roomCuts)) ∙ ap (λ (x : ℕ). eqb T x || marked cuts T) e);
+            };
+            itself = at S (s .below) ∙ closed (part S M) (marked unknown S) .1 (inl (part-iff S M .1 (m .above)));
+            stays = λ T l n. at T l ∙ closed (part T M) (marked unknown T) .1 (inr n);
+          }
+        where
+          at : (T : ℕ) → T < 2 ^ R → marked unknown' T ≡ (marked unknown T && not (part T M))
+          at T l = u .at T (omega (arith, g .roomUnknown))

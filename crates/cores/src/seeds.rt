@@ -16,7 +16,7 @@ use sets::ruleset::RuleSet;
 
 // Whether a set holds.
 fn judged(
-    masks: &[u16; 16384],
+    masks: &[u16],
     starts: [bool; 128],
     bads: [bool; 128],
     states: usize,
@@ -31,7 +31,7 @@ fn judged(
 // Whether a rule can be added to a broken set so that it stays broken. If something is known of the larger set it is that it holds, so only an
 // open one is judged.
 fn stays_broken(
-    masks: &[u16; 16384],
+    masks: &[u16],
     starts: [bool; 128],
     bads: [bool; 128],
     states: usize,
@@ -57,7 +57,7 @@ fn stays_broken(
 
 // A broken set above the seed to which no rule can be added so that it stays broken: they are added one by one.
 fn grow(
-    masks: &[u16; 16384],
+    masks: &[u16],
     starts: [bool; 128],
     bads: [bool; 128],
     states: usize,
@@ -84,7 +84,7 @@ fn grow(
 
 // Judges the seed, and notes the core or the cut that it leads to and what that says of other sets.
 fn settle(
-    masks: &[u16; 16384],
+    masks: &[u16],
     starts: [bool; 128],
     bads: [bool; 128],
     states: usize,
@@ -113,7 +113,7 @@ fn settle(
 
 // Marks the cores and the cuts. Every set is open when it is called, and no core or cut is marked.
 pub fn find(
-    masks: &[u16; 16384],
+    masks: &[u16],
     starts: [bool; 128],
     bads: [bool; 128],
     states: usize,
@@ -135,7 +135,15 @@ pub fn find(
     while s < end {
         let seed = RuleSet(s as u16);
         settle(
-            masks, starts, bads, states, rules, unknown, cores, cuts, seed,
+            masks,
+            starts,
+            bads,
+            states,
+            rules,
+            unknown,
+            cores,
+            cuts,
+            seed,
         );
         s = crate::tables::next_marked(unknown, s + 1, end);
     }
@@ -143,7 +151,7 @@ pub fn find(
 
 // The rules without which the full set, which holds, is broken: those that can be spared are dropped. One judgement for each rule.
 fn needed(
-    masks: &[u16; 16384],
+    masks: &[u16],
     starts: [bool; 128],
     bads: [bool; 128],
     states: usize,
@@ -172,7 +180,7 @@ fn needed(
 
 // The rules that all cores have in common; if there is no core, none.
 pub fn must_of(
-    masks: &[u16; 16384],
+    masks: &[u16],
     starts: [bool; 128],
     bads: [bool; 128],
     states: usize,

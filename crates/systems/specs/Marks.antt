@@ -41,6 +41,7 @@ pub record RowWalked (masks : List ℕ) (states rules s : ℕ) (before after : L
 -- r is the first number from s on that passes, or n.
 pub record NextFrom (p : ℕ → Bool) (s n r : ℕ) : Type 0 where
   pub within : r ≤ n
+  pub after : s ≤ n → s ≤ r
   pub passes : r < n → p r ≡ true
   pub passed : (k : ℕ) → s ≤ k → k < r → p k ≡ false
 

@@ -6,4 +6,4 @@ use Rattle.cores.proofs.seeds.judged.Tie as tie
 
 pub judged-spec : {M : Type 1} → statement M
 unfolding judgedBy
-judged-spec = tie.close (tie.spec (λ c κs. c .pre .few) (λ c. c .is-held .ensures))
+judged-spec = tie.close (tie.spec (λ c κs. c .before .pre) (λ c. c .is-held .ensures))

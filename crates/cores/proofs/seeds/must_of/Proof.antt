@@ -16,16 +16,16 @@ pub must-of-spec : {M : Type 1} → statement M
 must-of-spec =
     tie.close
     (tie.spec
-    (λ c κs. c .pre .1 .0)
-    (λ c κs. c .before .pre .0)
+    (λ c κs. c .before .pre .1 .0)
+    (λ c κs. c .before .before .pre .0)
     (λ c κs.
-    let s = c .before .before .before in
+    let s = c .before .before .before .before in
     let all = c .before .before .full .ensures in
     let h = judgedBy (s .args .masks .now) (s .args .starts) (s .args .bads) (s .args .states) in
     (s .pre .0, (s .pre .1 .0, (s .pre .1 .1, (all, verdict h all (c .before .judged .ensures) (c .if1 .taken))))))
     (λ c. c .needed .ensures)
     (λ c.
-    let s = c .before .before .before in
+    let s = c .before .before .before .before in
     let h = judgedBy (s .args .masks .now) (s .args .starts) (s .args .bads) (s .args .states) in
     sym (full-broken _ h (s .pre .1 .1) (verdict h (c .before .before .full .ensures) (c .before .judged .ensures) (c .if1 .left))
     .noMust)))

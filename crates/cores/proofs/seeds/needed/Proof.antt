@@ -74,9 +74,9 @@ abbrev μ-loop : tie.MeasureT-loop
 loop-again : tie.Need-loop-again Inv-loop μ-loop
 loop-again c =
     let l = c .before .before .before .before .before in
-    let a = l .before .args in
+    let a = l .before .before .args in
     let h = judgedBy (a .masks .now) (a .starts) (a .bads) (a .states) in
-    let all = l .before .pre .1 .1 .1 .0 in
+    let all = l .before .before .pre .1 .1 .1 .0 in
     let less = c .before .before .before .without .ensures in
     let told = c .before .judged .ensures in
     ⊎-elim
@@ -93,13 +93,13 @@ needed-spec =
     (tie.spec
     Inv-loop
     μ-loop
-    (λ c. all-left _ _ (c .pre .1 .1 .1 .0))
-    (λ c κs. omega (arith, c .before .before .pre .1 .0))
+    (λ c. all-left _ _ (c .before .pre .1 .1 .1 .0))
     (λ c κs. omega (arith, c .before .before .before .pre .1 .0))
-    (λ c κs. c .before .before .before .before .pre .0)
+    (λ c κs. omega (arith, c .before .before .before .before .pre .1 .0))
+    (λ c κs. c .before .before .before .before .before .pre .0)
     (λ c. omega arith)
     (λ c. omega arith)
     loop-again
     (λ c.
-    let p = c .before .before .pre .1 .1 in
+    let p = c .before .before .before .pre .1 .1 in
     is-must _ _ _ (c .before .loop .inv) (p .0) (p .1 .1) (c .loop-test .left)))

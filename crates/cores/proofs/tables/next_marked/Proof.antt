@@ -20,6 +20,7 @@ use Rattle.cores.proofs.tables.next_marked.Statement.{statement}
 use Rattle.cores.proofs.tables.next_marked.Tie as tie
 
 record Passed (p : ℕ → Bool) (from s : ℕ) : Type 0 where
+  after : from ≤ s
   none : (k : ℕ) → from ≤ k → k < s → p k ≡ false
 
 -- the marks from s on, as bits of the word that is left of them
@@ -37,7 +38,7 @@ module _ (table : List ℕ) (s : ℕ) where
   module _ (from : ℕ) (p : Passed (marked table) from s) where
     -- none is left in this word
     word-passed : left ≡ 0 → Passed (marked table) from (64 * (s / 64 + 1))
-    word-passed e = record { none = λ k a b. at k a b (decLt k s) }
+    word-passed e = record { after = omega (arith, p .after); none = λ k a b. at k a b (decLt k s) }
       where
         at : (k : ℕ) → from ≤ k → k < 64 * (s / 64 + 1) → Dec (k < s) → marked table k ≡ false
         at k a b (yes l) = p .none k a l
@@ -62,17 +63,17 @@ module _ (table : List ℕ) (s : ℕ) where
 
       before-it : Passed (marked table) from (s + t)
       unfolding t
-      before-it = record { none = λ k a b. at k a b (decLt k s) }
+      before-it = record { after = omega (arith, p .after); none = λ k a b. at k a b (decLt k s) }
         where
           at : (k : ℕ) → from ≤ k → k < s + t → Dec (k < s) → marked table k ≡ false
           at k a b (yes l) = p .none k a l
           at k a b (no g) = bit-left k (omega arith) (omega (arith, inside)) ∙ first-least 64 left (k - s) (omega arith)
 
       next-found : (end : ℕ) → s + t < end → NextFrom (marked table) from end (s + t)
-      next-found end l = record { within = omega arith; passes = λ _. found; passed = λ k a b. before-it .none k a b }
+      next-found end l = record { within = omega arith; after = λ _. omega (arith, p .after); passes = λ _. found; passed = λ k a b. before-it .none k a b }
 
       next-end : (end : ℕ) → end ≤ s + t → NextFrom (marked table) from end end
-      next-end end l = record { within = omega arith; passes = λ h. absurd (omega arith); passed = λ k a b. before-it .none k a (omega arith) }
+      next-end end l = record { within = omega arith; after = λ h. h; passes = λ h. absurd (omega arith); passed = λ k a b. before-it .none k a (omega arith) }
 
 abbrev Inv-loop : tie.InvT-loop
 Inv-loop table from end s₀ s = Passed (marked table) from s
@@ -87,7 +88,7 @@ next-marked-spec =
     (tie.spec
     Inv-loop
     μ-loop
-    (λ c. record { none = λ k a b. absurd (omega arith) })
+    (λ c. record { after = omega arith; none = λ k a b. absurd (omega arith) })
     (λ c. omega (arith, c .before .before .pre .1))
     (λ c. omega (arith, c .before .before .before .pre .1))
     (λ c. omega arith)
@@ -99,4 +100,4 @@ next-marked-spec =
     (λ c. omega (arith, c .before .before .loop-test .taken, c .before .before .before .before .pre .0))
     (λ c. omega (arith, c .before .before .loop-test .taken))
     (λ c. word-passed _ _ _ (c .before .before .before .loop .inv) (c .if1 .left))
-    (λ c. record { within = omega arith; passes = λ h. absurd (omega arith); passed = λ k a b. c .before .loop .inv .none k a (omega (arith, c .loop-test .left)) }))
+    (λ c. record { within = omega arith; after = λ h. h; passes = λ h. absurd (omega arith); passed = λ k a b. c .before .loop .inv .none k a (omega (arith, c .loop-test .left)) }))

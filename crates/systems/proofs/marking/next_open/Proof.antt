@@ -30,7 +30,7 @@ next-open-spec =
     (λ c. search needs)
     (λ c.
     let l = c .before .before .before .loop in
-    record { within = omega arith; passes = λ _. eq-eqb _ _ (c .if1 .taken); passed = λ k h g. l .inv .2 k g h })
+    record { within = omega arith; after = λ _. omega arith; passes = λ _. eq-eqb _ _ (c .if1 .taken); passed = λ k h g. l .inv .2 k g h })
     (λ c. search needs)
     (λ c. search needs)
     (λ c.
@@ -38,4 +38,4 @@ next-open-spec =
     (omega arith, omega arith, below-more _ (l .t) (l .inv .2) (λ _. ne-eqb _ _ (c .if1 .left))))
     (λ c.
     let l = c .before .loop in
-    record { within = omega arith; passes = λ h. absurd (omega arith); passed = λ k h g. l .inv .2 k g h }))
+    record { within = omega arith; after = λ _. omega arith; passes = λ h. absurd (omega arith); passed = λ k h g. l .inv .2 k g h }))

@@ -1,0 +1,94 @@
+-- `cores::seeds::find` meets its contract. The loop's invariant: what was found is right, no set below s is unknown, and s is unknown or the
+-- end. Assumes nothing.
+use Prim.Native.Nat.{ℕ, _+_, _-_, _^_, _≤_, _<_}
+use mathlib.Core.Path.{_≡_, refl, _∙_}
+use mathlib.Core.Logic.{_≢_}
+use mathlib.Core.Bool.{Bool, true, false}
+use mathlib.Core.List.{List}
+use native.Mathlib.Omega.{arith}
+use borrow.Author.Count.{below-more}
+use native.Mathlib.Decide.{decLt}
+use lib.ListN.{length}
+use lib.Pow.{pow-mono}
+use Rattle.sets.specs.Cores.{isCore, isCut}
+use Rattle.systems.specs.Marks.{NextFrom}
+use Rattle.cores.specs.Tables.{marked, Marks}
+use Rattle.cores.specs.Seeds.{judgedBy, Going, Seed, Settled, all-unknown, none-unknown}
+use Rattle.cores.proofs.seeds.find.Statement.{statement}
+use Rattle.cores.proofs.seeds.find.Tie as tie
+
+record Finding (R : ℕ) (h : ℕ → Bool) (end : ℕ) (unknown cores cuts : List ℕ) (s : ℕ) : Type 0 where
+  count : end ≡ 2 ^ R
+  going : Going R h unknown cores cuts
+  within : s ≤ end
+  itself : s < end → marked unknown s ≡ true
+  first : (T : ℕ) → T < s → marked unknown T ≡ false
+
+-- as many words as before
+record Kept (unknown₀ cores₀ cuts₀ unknown cores cuts : List ℕ) : Type 0 where
+  unknowns : length unknown ≡ length unknown₀
+  coreses : length cores ≡ length cores₀
+  cutses : length cuts ≡ length cuts₀
+
+start : (R : ℕ) (h : ℕ → Bool) (end : ℕ) (unknown cores cuts : List ℕ) (s : ℕ) → end ≡ 2 ^ R → Going R h unknown cores cuts → NextFrom (marked unknown) 0 end s
+    → Finding R h end unknown cores cuts s
+start R h end unknown cores cuts s e g f =
+    record { count = e; going = g; within = f .within; itself = f .passes; first = λ T l. f .passed T (omega arith) l }
+
+module _ (R : ℕ) (h : ℕ → Bool) (end : ℕ) (unknown cores cuts : List ℕ) (s : ℕ) (f : Finding R h end unknown cores cuts s) where
+  small : end ≤ 65536
+  small = omega (arith, f .count, pow-mono (f .going .few))
+
+  seed : s < end → Seed R (marked unknown) s
+  seed l = record { below = omega (arith, f .count); itself = f .itself l; first = f .first }
+
+  next : s < end → (unknown' cores' cuts' : List ℕ) (t : ℕ) → Settled R h s unknown unknown' cores' cuts' → NextFrom (marked unknown') (s + 1) end t
+      → Finding R h end unknown' cores' cuts' t
+  next l unknown' cores' cuts' t d n =
+      record { count = f .count; going = d .going; within = n .within; itself = n .passes; first = λ T b. at T b (decLt T (s + 1)) }
+    where
+      known : (T : ℕ) → T < s + 1 → marked unknown' T ≡ false
+      known = below-more (λ (T : ℕ). marked unknown' T ≡ false) s (λ T b. d .stays T (omega (arith, f .count)) (f .first T b)) (d .itself)
+
+      at : (T : ℕ) → T < t → Dec (T < s + 1) → marked unknown' T ≡ false
+      at T b (yes x) = known T x
+      at T b (no x) = n .passed T (omega arith) b
+
+  all : end ≤ s → Marks R (isCore h) cores × Marks R (isCut R h) cuts
+  all l = none-unknown R h unknown cores cuts (f .going) (λ S b. f .first S (omega (arith, f .count)))
+
+abbrev Inv-loop : tie.InvT-loop
+Inv-loop masks starts bads states rules unknown₀ cores₀ cuts₀ end s₀ unknown cores cuts s =
+    Kept unknown₀ cores₀ cuts₀ unknown cores cuts × Finding rules (judgedBy masks starts bads states) end unknown cores cuts s
+
+abbrev μ-loop : tie.MeasureT-loop
+μ-loop masks starts bads states rules unknown₀ cores₀ cuts₀ end s₀ unknown cores cuts s = end - s
+
+pub find-spec : {M : Type 1} → statement M
+find-spec =
+    tie.close
+    (tie.spec
+    Inv-loop
+    μ-loop
+    (λ c κs. c .before .before .before .before .pre .1 .1 .0 .few)
+    (λ c κs. let u = c .before .before .before .before .before .before .pre .1 .1 .0 in (omega (arith, c .before .set-count .ensures, pow-mono (u .few)), omega (arith, c .before .set-count .ensures, u .room)))
+    (λ c.
+    let p = c .before .before .before .before .before .before .before .pre .1 .1 in
+    (record { unknowns = refl; coreses = refl; cutses = refl }, start _ _ _ _ _ _ _ (c .before .before .set-count .ensures) (all-unknown _ _ _ _ _ (p .0) (p .1 .0) (p .1 .1)) (c .next-marked .ensures)))
+    (λ c. omega (arith, c .loop-test .taken, small _ _ _ _ _ _ _ (c .before .loop .inv .1)))
+    (λ c κs.
+    let p = c .before .before .before .before .before .before .before .before .before .before .before .before .pre in
+    let f = c .before .before .before .before .loop .inv .1 in
+    (p .0, (p .1 .0, (f .going, seed _ _ _ _ _ _ _ f (c .before .before .before .loop-test .taken)))))
+    (λ c. omega (arith, c .before .before .before .before .before .before .before .before .before .before .before .loop-test .taken, small _ _ _ _ _ _ _ (c .before .before .before .before .before .before .before .before .before .before .before .before .loop .inv .1)))
+    (λ c κs. let f = c .before .before .before .before .before .before .before .before .before .before .before .before .loop .inv .1 in (small _ _ _ _ _ _ _ f, omega (arith, f .count, c .before .before .before .before .before .before .before .settle .ensures .going .roomUnknown)))
+    (λ c. omega (arith, c .before .before .before .before .before .before .before .before .before .before .before .before .loop-test .taken, c .next-marked2 .ensures .after (omega (arith, c .before .before .before .before .before .before .before .before .before .before .before .before .loop-test .taken))))
+    (λ c.
+    let i = c .before .before .before .before .before .before .before .before .before .before .before .before .before .loop .inv in (
+      record { unknowns = c .before .before .before .before .before .before .before .unknown .given ∙ i .0 .unknowns; coreses = c .before .before .before .before .before .cores .given ∙ i .0 .coreses; cutses = c .before .before .before .cuts .given ∙ i .0 .cutses },
+      next _ _ _ _ _ _ _ (i .1) (c .before .before .before .before .before .before .before .before .before .before .before .before .loop-test .taken) _ _ _ _ (c .before .before .before .before .before .before .before .before .settle .ensures) (c .next-marked2 .ensures),
+    ))
+    (λ c. c .before .loop .inv .0 .unknowns)
+    (λ c. c .before .loop .inv .0 .coreses)
+    (λ c. c .before .loop .inv .0 .cutses)
+    (λ c. all _ _ _ _ _ _ _ (c .before .loop .inv .1) (c .loop-test .left)))
