@@ -1,61 +1,149 @@
-// Listing the cores and the cuts: the verdicts of all sets are found first, then the list is counted, and only then written.
+// Listing the cores and the cuts: all of them are found first, then the list is counted, and only then written.
 ghost use mathlib.Core.Path.{_≡_};
-ghost use Prim.Native.Nat.{_≤_};
+ghost use mathlib.Core.Bool.{true, false, cond};
+ghost use Prim.Native.Nat.{_*_, _^_, _≤_};
+ghost use lib.ListN.{length};
 ghost use Rattle.sets.specs.Lists.{listOf};
-ghost use Rattle.cores.specs.Tables.{marked};
-ghost use Rattle.cores.specs.Tables.{Verdicts};
-ghost use Rattle.systems.specs.Meaning.{judge};
-ghost use Rattle.codremif.specs.Answers.{IsRead, listAnswer, listBytes, coresAnswer, coresBytes, cutsAnswer, cutsBytes};
+ghost use Rattle.cores.specs.Tables.{marked, Marks};
+ghost use Rattle.codremif.specs.Answers.{IsRead, coresIn, cutsIn, listAnswer, listBytes, coresAnswer, coresBytes, cutsAnswer, cutsBytes};
 use crate::answers::ListAnswer;
 use models::model::Model;
 use models::model::Outcome;
 
-// The list of the marked sets, if the lent bytes are enough for it.
-fn give_list(members: &[bool; 65536], rules: usize, lent: &mut [u8]) -> ListAnswer
-    requires { ⌜ rules ≤ 16 ⌝ }
-    ensures { λ r. ⌜ r ≡ listAnswer (listOf rules (marked (now (members .entry)))) (now (lent .entry)) ⌝ }
+// The list of the marked sets, if the lent bytes are enough for it. The sets are counted before one is written.
+fn give_list(table: &[u64], rules: usize, found: &mut [u16], lent: &mut [u8]) -> ListAnswer
+    requires { ⌜ (rules ≤ 16) × (2 ^ rules ≤ 64 * length (now table)) ⌝ }
+    requires { ⌜ 2 ^ rules ≤ length (now found) ⌝ }
+    ensures { λ r. ⌜ r ≡ listAnswer (listOf rules (marked (now (table .entry)))) (now (lent .entry)) ⌝ }
     ensures { λ _. ⌜
-        now (lent .exit) ≡ listBytes (listOf rules (marked (now (members .entry)))) (now (lent .entry)) ⌝ }
+        now (lent .exit) ≡ listBytes (listOf rules (marked (now (table .entry)))) (now (lent .entry)) ⌝ }
 {
-    let n = cores::listing::count(members, rules);
+    let n = cores::listing::gather(table, rules, found);
     if lent.len() / 2 < n {
         return ListAnswer::Refused(11, 0);
     }
-    cores::listing::write(members, rules, lent);
+    cores::listing::write_sorted(&found[..n], rules, lent);
     ListAnswer::Count(n)
 }
 
-// The verdicts of all sets of the model's rules. The tables are computed once.
-fn verdicts(text: &[u8], m: Model) -> [bool; 65536]
+// Marks the cores and the cuts of the model's rules. The masks are filled once, and no set is judged again for the other list.
+fn find(
+    text: &[u8],
+    m: Model,
+    masks: &mut [u16],
+    unknown: &mut [u64],
+    cores: &mut [u64],
+    cuts: &mut [u64],
+)
     requires { ⌜ IsRead (now text) m ⌝ }
-    ensures { λ r. ⌜ Verdicts (m .rules) (judge (now (text .entry)) m) r ⌝ }
+    requires { ⌜ 128 * 2 ^ m .vars ≤ length (now masks) ⌝ }
+    requires { ⌜ Marks (m .rules) (λ S. true) (now unknown) ⌝ }
+    requires { ⌜ Marks (m .rules) (λ S. false) (now cores) ⌝ }
+    requires { ⌜ Marks (m .rules) (λ S. false) (now cuts) ⌝ }
+    ensures { λ _. ⌜ listOf (m .rules) (marked (now (cores .exit))) ≡ coresIn (now (text .entry)) ⌝ }
+    ensures { λ _. ⌜ listOf (m .rules) (marked (now (cuts .exit))) ≡ cutsIn (now (text .entry)) ⌝ }
 {
-    let masks = systems::tables::pair_masks(text, m);
+    systems::tables::fill_masks(text, m, masks);
     let starts = systems::tables::start_marks(text, m);
     let bads = systems::tables::bad_marks(text, m);
     let states = systems::tables::state_count(m.vars);
-    cores::seeds::verdicts_of(&masks, starts, bads, states, m.rules)
+    cores::seeds::find(masks, starts, bads, states, m.rules, unknown, cores, cuts);
 }
 
-fn cores_of(text: &[u8], m: Model, lent: &mut [u8]) -> ListAnswer
+// The list of the cuts, if these are wanted, and otherwise that of the cores. The caller lends the room for the tables.
+fn list_with(
+    text: &[u8],
+    m: Model,
+    wanted: bool,
+    masks: &mut [u16],
+    unknown: &mut [u64],
+    cores: &mut [u64],
+    cuts: &mut [u64],
+    found: &mut [u16],
+    lent: &mut [u8],
+) -> ListAnswer
     requires { ⌜ IsRead (now text) m ⌝ }
-    ensures { λ r. ⌜ r ≡ coresAnswer (now (text .entry)) (now (lent .entry)) ⌝ }
-    ensures { λ _. ⌜ now (lent .exit) ≡ coresBytes (now (text .entry)) (now (lent .entry)) ⌝ }
+    requires { ⌜ 128 * 2 ^ m .vars ≤ length (now masks) ⌝ }
+    requires { ⌜ Marks (m .rules) (λ S. true) (now unknown) ⌝ }
+    requires { ⌜ Marks (m .rules) (λ S. false) (now cores) ⌝ }
+    requires { ⌜ Marks (m .rules) (λ S. false) (now cuts) ⌝ }
+    requires { ⌜ 2 ^ m .rules ≤ length (now found) ⌝ }
+    ensures { λ r. ⌜ r ≡ listAnswer (cond wanted (cutsIn (now (text .entry))) (coresIn (now (text .entry)))) (now (lent .entry)) ⌝ }
+    ensures { λ _. ⌜
+        now (lent .exit) ≡ listBytes (cond wanted (cutsIn (now (text .entry))) (coresIn (now (text .entry)))) (now (lent .entry)) ⌝ }
 {
-    let holds = verdicts(text, m);
-    let members = cores::verdicts::least(&holds, m.rules);
-    give_list(&members, m.rules, lent)
+    find(text, m, masks, unknown, cores, cuts);
+    if wanted {
+        give_list(cuts, m.rules, found, lent)
+    } else {
+        give_list(cores, m.rules, found, lent)
+    }
 }
 
-fn cuts_of(text: &[u8], m: Model, lent: &mut [u8]) -> ListAnswer
+// Room for models of at most 3 letters and 10 rules. They would spend most of their time clearing the room for the largest.
+fn list_small(text: &[u8], m: Model, wanted: bool, lent: &mut [u8]) -> ListAnswer
     requires { ⌜ IsRead (now text) m ⌝ }
-    ensures { λ r. ⌜ r ≡ cutsAnswer (now (text .entry)) (now (lent .entry)) ⌝ }
-    ensures { λ _. ⌜ now (lent .exit) ≡ cutsBytes (now (text .entry)) (now (lent .entry)) ⌝ }
+    requires { ⌜ (m .vars ≤ 3) × (m .rules ≤ 10) ⌝ }
+    ensures { λ r. ⌜ r ≡ listAnswer (cond wanted (cutsIn (now (text .entry))) (coresIn (now (text .entry)))) (now (lent .entry)) ⌝ }
+    ensures { λ _. ⌜
+        now (lent .exit) ≡ listBytes (cond wanted (cutsIn (now (text .entry))) (coresIn (now (text .entry)))) (now (lent .entry)) ⌝ }
 {
-    let holds = verdicts(text, m);
-    let breaks = cores::verdicts::dual(&holds, m.rules);
-    let members = cores::verdicts::least(&breaks, m.rules);
-    give_list(&members, m.rules, lent)
+    let mut masks = [0u16; 1024];
+    let mut unknown = [0xFFFF_FFFF_FFFF_FFFFu64; 16];
+    let mut cores = [0u64; 16];
+    let mut cuts = [0u64; 16];
+    let mut found = [0u16; 1024];
+    let words = cores::tables::word_count(m.rules);
+    list_with(
+        text,
+        m,
+        wanted,
+        &mut masks[..],
+        &mut unknown[..words],
+        &mut cores[..words],
+        &mut cuts[..words],
+        &mut found[..],
+        lent,
+    )
+}
+
+// Room for every model.
+fn list_large(text: &[u8], m: Model, wanted: bool, lent: &mut [u8]) -> ListAnswer
+    requires { ⌜ IsRead (now text) m ⌝ }
+    ensures { λ r. ⌜ r ≡ listAnswer (cond wanted (cutsIn (now (text .entry))) (coresIn (now (text .entry)))) (now (lent .entry)) ⌝ }
+    ensures { λ _. ⌜
+        now (lent .exit) ≡ listBytes (cond wanted (cutsIn (now (text .entry))) (coresIn (now (text .entry)))) (now (lent .entry)) ⌝ }
+{
+    let mut masks = [0u16; 16384];
+    let mut unknown = [0xFFFF_FFFF_FFFF_FFFFu64; 1024];
+    let mut cores = [0u64; 1024];
+    let mut cuts = [0u64; 1024];
+    let mut found = [0u16; 65536];
+    let words = cores::tables::word_count(m.rules);
+    list_with(
+        text,
+        m,
+        wanted,
+        &mut masks[..],
+        &mut unknown[..words],
+        &mut cores[..words],
+        &mut cuts[..words],
+        &mut found[..],
+        lent,
+    )
+}
+
+fn list_in(text: &[u8], m: Model, wanted: bool, lent: &mut [u8]) -> ListAnswer
+    requires { ⌜ IsRead (now text) m ⌝ }
+    ensures { λ r. ⌜ r ≡ listAnswer (cond wanted (cutsIn (now (text .entry))) (coresIn (now (text .entry)))) (now (lent .entry)) ⌝ }
+    ensures { λ _. ⌜
+        now (lent .exit) ≡ listBytes (cond wanted (cutsIn (now (text .entry))) (coresIn (now (text .entry)))) (now (lent .entry)) ⌝ }
+{
+    if (m.vars <= 3) & (m.rules <= 10) {
+        list_small(text, m, wanted, lent)
+    } else {
+        list_large(text, m, wanted, lent)
+    }
 }
 
 // Lists the cores of a model text.
@@ -69,7 +157,7 @@ pub fn list_cores(text: &[u8], lent: &mut [u8]) -> ListAnswer
         Outcome::Refused(number, line) => ListAnswer::Refused(number, line),
         Outcome::Accepted => {
             let m = reading.model;
-            cores_of(text, m, lent)
+            list_in(text, m, false, lent)
         }
     }
 }
@@ -85,7 +173,7 @@ pub fn list_cuts(text: &[u8], lent: &mut [u8]) -> ListAnswer
         Outcome::Refused(number, line) => ListAnswer::Refused(number, line),
         Outcome::Accepted => {
             let m = reading.model;
-            cuts_of(text, m, lent)
+            list_in(text, m, true, lent)
         }
     }
 }

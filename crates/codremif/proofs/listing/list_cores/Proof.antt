@@ -1,8 +1,9 @@
 -- `codremif::listing::list_cores` meets its contract: a refused text is answered by its number and line, and an accepted one as it is read.
 -- Assumes nothing.
+use mathlib.Core.Path.{refl, _∙_}
 use borrow.Author.Needs.{needs}
 use Rattle.codremif.specs.AnswerLaws.{is-read, is-refused}
-use Rattle.codremif.proofs.ListFacts.{cores-refused}
+use Rattle.codremif.proofs.ListFacts.{cores-given, cores-refused}
 use Rattle.codremif.proofs.listing.list_cores.Statement.{statement}
 use Rattle.codremif.proofs.listing.list_cores.Tie as tie
 
@@ -16,4 +17,6 @@ list-cores-spec =
     (λ c κs. is-read _ (c .before .before .before .before .read-model .ensures) (c .before .before .enum-told .given .1))
     (λ c. cores-refused _ _ (is-refused _ (c .before .before .before .read-model .ensures) (c .before .outcome .given .1)))
     (λ c. search needs)
-    (λ c. c .before .before .cores-of .ensures))
+    (λ c.
+    let g = cores-given (is-read _ (c .before .before .before .before .before .before .before .read-model .ensures) (c .before .before .before .before .before .enum-told .given .1)) _ (c .before .before .before .before .before .before .before .before .before .before .args .lent .now) refl in
+    (c .before .before .list-in .ensures .0 ∙ g .0, c .before .before .list-in .ensures .1 ∙ g .1)))

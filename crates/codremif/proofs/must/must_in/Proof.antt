@@ -1,7 +1,7 @@
--- `codremif::must::must_in` meets its contract: the judgement by the tables of the model is the judgement of the model.
--- Assumes nothing.
-use Rattle.codremif.proofs.JudgeFacts.{vars-le, rules-le}
-use Rattle.codremif.proofs.ListFacts.{tables-asked, tables-must}
+-- `codremif::must::must_in` meets its contract: either array has room for the masks. Assumes nothing.
+use native.Mathlib.Omega.{arith}
+use Rattle.codremif.proofs.JudgeFacts.{vars-le}
+use Rattle.codremif.proofs.Room.{repeats, masks-room}
 use Rattle.codremif.proofs.must.must_in.Statement.{statement}
 use Rattle.codremif.proofs.must.must_in.Tie as tie
 
@@ -9,13 +9,9 @@ pub must-in-spec : {M : Type 1} → statement M
 must-in-spec =
     tie.close
     (tie.spec
-    (λ c κs. (vars-le (c .before .pre), rules-le (c .before .pre)))
-    (λ c κs. vars-le (c .before .before .pre))
-    (λ c κs. vars-le (c .before .before .before .pre))
-    (λ c κs. vars-le (c .before .before .before .before .pre))
-    (λ c κs.
-    let b = c .before .before in
-    tables-asked (b .before .before .before .before .pre) (b .before .before .pair-masks .ensures) (b .before .start-marks .ensures) (b .bad-marks .ensures) (c .before .state-count .ensures))
-    (λ c.
-    let b = c .before .before .before in
-    tables-must (b .before .before .before .before .pre) (b .before .before .pair-masks .ensures) (b .before .start-marks .ensures) (b .bad-marks .ensures) (c .before .before .state-count .ensures) _ (c .must-of .ensures)))
+    (λ c. repeats 1024 0)
+    (λ c κs. (c .before .before .before .before .pre, masks-room 1024 3 (omega arith) (omega (arith, c .before .if1 .taken))))
+    (λ c. repeats 16384 0)
+    (λ c κs. (c .before .before .before .before .pre, masks-room 16384 7 (omega arith) (vars-le (c .before .before .before .before .pre))))
+    (λ c. c .before .must-with .ensures)
+    (λ c. c .before .must-with2 .ensures))
