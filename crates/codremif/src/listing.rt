@@ -80,15 +80,15 @@ fn list_with(
     }
 }
 
-// Room for models of at most 3 letters and 10 rules. They would spend most of their time clearing the room for the largest.
-fn list_small(text: &[u8], m: Model, wanted: bool, lent: &mut [u8]) -> ListAnswer
+// Tables for at most 10 rules. Small models would spend most of their time clearing the tables for the most rules.
+fn list_few(text: &[u8], m: Model, wanted: bool, masks: &mut [u16], lent: &mut [u8]) -> ListAnswer
     requires { ⌜ IsRead (now text) m ⌝ }
-    requires { ⌜ (m .vars ≤ 3) × (m .rules ≤ 10) ⌝ }
+    requires { ⌜ 128 * 2 ^ m .vars ≤ length (now masks) ⌝ }
+    requires { ⌜ m .rules ≤ 10 ⌝ }
     ensures { λ r. ⌜ r ≡ listAnswer (cond wanted (cutsIn (now (text .entry))) (coresIn (now (text .entry)))) (now (lent .entry)) ⌝ }
     ensures { λ _. ⌜
         now (lent .exit) ≡ listBytes (cond wanted (cutsIn (now (text .entry))) (coresIn (now (text .entry)))) (now (lent .entry)) ⌝ }
 {
-    let mut masks = [0u16; 1024];
     let mut unknown = [0xFFFF_FFFF_FFFF_FFFFu64; 16];
     let mut cores = [0u64; 16];
     let mut cuts = [0u64; 16];
@@ -98,7 +98,7 @@ fn list_small(text: &[u8], m: Model, wanted: bool, lent: &mut [u8]) -> ListAnswe
         text,
         m,
         wanted,
-        &mut masks[..],
+        masks,
         &mut unknown[..words],
         &mut cores[..words],
         &mut cuts[..words],
@@ -107,14 +107,14 @@ fn list_small(text: &[u8], m: Model, wanted: bool, lent: &mut [u8]) -> ListAnswe
     )
 }
 
-// Room for every model.
-fn list_large(text: &[u8], m: Model, wanted: bool, lent: &mut [u8]) -> ListAnswer
+// Tables for any model's rules.
+fn list_many(text: &[u8], m: Model, wanted: bool, masks: &mut [u16], lent: &mut [u8]) -> ListAnswer
     requires { ⌜ IsRead (now text) m ⌝ }
+    requires { ⌜ 128 * 2 ^ m .vars ≤ length (now masks) ⌝ }
     ensures { λ r. ⌜ r ≡ listAnswer (cond wanted (cutsIn (now (text .entry))) (coresIn (now (text .entry)))) (now (lent .entry)) ⌝ }
     ensures { λ _. ⌜
         now (lent .exit) ≡ listBytes (cond wanted (cutsIn (now (text .entry))) (coresIn (now (text .entry)))) (now (lent .entry)) ⌝ }
 {
-    let mut masks = [0u16; 16384];
     let mut unknown = [0xFFFF_FFFF_FFFF_FFFFu64; 1024];
     let mut cores = [0u64; 1024];
     let mut cuts = [0u64; 1024];
@@ -124,7 +124,7 @@ fn list_large(text: &[u8], m: Model, wanted: bool, lent: &mut [u8]) -> ListAnswe
         text,
         m,
         wanted,
-        &mut masks[..],
+        masks,
         &mut unknown[..words],
         &mut cores[..words],
         &mut cuts[..words],
@@ -133,16 +133,33 @@ fn list_large(text: &[u8], m: Model, wanted: bool, lent: &mut [u8]) -> ListAnswe
     )
 }
 
+fn list_over(text: &[u8], m: Model, wanted: bool, masks: &mut [u16], lent: &mut [u8]) -> ListAnswer
+    requires { ⌜ IsRead (now text) m ⌝ }
+    requires { ⌜ 128 * 2 ^ m .vars ≤ length (now masks) ⌝ }
+    ensures { λ r. ⌜ r ≡ listAnswer (cond wanted (cutsIn (now (text .entry))) (coresIn (now (text .entry)))) (now (lent .entry)) ⌝ }
+    ensures { λ _. ⌜
+        now (lent .exit) ≡ listBytes (cond wanted (cutsIn (now (text .entry))) (coresIn (now (text .entry)))) (now (lent .entry)) ⌝ }
+{
+    if m.rules <= 10 {
+        list_few(text, m, wanted, masks, lent)
+    } else {
+        list_many(text, m, wanted, masks, lent)
+    }
+}
+
+// Masks for at most 3 letters, or for any model's letters: the reason is the same.
 fn list_in(text: &[u8], m: Model, wanted: bool, lent: &mut [u8]) -> ListAnswer
     requires { ⌜ IsRead (now text) m ⌝ }
     ensures { λ r. ⌜ r ≡ listAnswer (cond wanted (cutsIn (now (text .entry))) (coresIn (now (text .entry)))) (now (lent .entry)) ⌝ }
     ensures { λ _. ⌜
         now (lent .exit) ≡ listBytes (cond wanted (cutsIn (now (text .entry))) (coresIn (now (text .entry)))) (now (lent .entry)) ⌝ }
 {
-    if (m.vars <= 3) & (m.rules <= 10) {
-        list_small(text, m, wanted, lent)
+    if m.vars <= 3 {
+        let mut masks = [0u16; 1024];
+        list_over(text, m, wanted, &mut masks[..], lent)
     } else {
-        list_large(text, m, wanted, lent)
+        let mut masks = [0u16; 16384];
+        list_over(text, m, wanted, &mut masks[..], lent)
     }
 }
 
