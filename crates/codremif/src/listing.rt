@@ -80,19 +80,19 @@ fn list_with(
     }
 }
 
-// Tables for at most 10 rules. Small models would spend most of their time clearing the tables for the most rules.
+// Tables for at most 8 rules. Small models would spend most of their time clearing the tables for the most rules.
 fn list_few(text: &[u8], m: Model, wanted: bool, masks: &mut [u16], lent: &mut [u8]) -> ListAnswer
     requires { ⌜ IsRead (now text) m ⌝ }
     requires { ⌜ 128 * 2 ^ m .vars ≤ length (now masks) ⌝ }
-    requires { ⌜ m .rules ≤ 10 ⌝ }
+    requires { ⌜ m .rules ≤ 8 ⌝ }
     ensures { λ r. ⌜ r ≡ listAnswer (cond wanted (cutsIn (now (text .entry))) (coresIn (now (text .entry)))) (now (lent .entry)) ⌝ }
     ensures { λ _. ⌜
         now (lent .exit) ≡ listBytes (cond wanted (cutsIn (now (text .entry))) (coresIn (now (text .entry)))) (now (lent .entry)) ⌝ }
 {
-    let mut unknown = [0xFFFF_FFFF_FFFF_FFFFu64; 16];
-    let mut cores = [0u64; 16];
-    let mut cuts = [0u64; 16];
-    let mut found = [0u16; 1024];
+    let mut unknown = [0xFFFF_FFFF_FFFF_FFFFu64; 4];
+    let mut cores = [0u64; 4];
+    let mut cuts = [0u64; 4];
+    let mut found = [0u16; 256];
     let words = cores::tables::word_count(m.rules);
     list_with(
         text,
@@ -140,7 +140,7 @@ fn list_over(text: &[u8], m: Model, wanted: bool, masks: &mut [u16], lent: &mut 
     ensures { λ _. ⌜
         now (lent .exit) ≡ listBytes (cond wanted (cutsIn (now (text .entry))) (coresIn (now (text .entry)))) (now (lent .entry)) ⌝ }
 {
-    if m.rules <= 10 {
+    if m.rules <= 8 {
         list_few(text, m, wanted, masks, lent)
     } else {
         list_many(text, m, wanted, masks, lent)
