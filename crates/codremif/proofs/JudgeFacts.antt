@@ -11,7 +11,6 @@ use lib.ListN.{length, take, length-take}
 use Rattle.sets.specs.Lists.{overwritten}
 use Rattle.models.specs.declared.model.Model.{Model}
 use Rattle.models.specs.declared.model.Outcome.the-variants.{Accepted, Refused}
-use Rattle.models.specs.Ranges.{ranges}
 use Rattle.systems.specs.System.{System}
 use Rattle.systems.specs.Verdict.{holds, traceOf}
 use Rattle.systems.specs.Meaning.{systemOf}
@@ -22,7 +21,7 @@ use Rattle.systems.specs.TablesTell.{states-le}
 use Rattle.codremif.specs.declared.answers.JudgeAnswer.{JudgeAnswer}
 use Rattle.codremif.specs.declared.answers.JudgeAnswer.the-variants.{Refused as JudgeRefused, Holds, Broken}
 use Rattle.codremif.specs.Answers.{IsRead, modelOf, systemIn, traceIn, textOutcome, judgeOutcome, verdictOf, judgeAnswer, judgeBytes}
-use Rattle.codremif.specs.AnswerLaws.{judge-numbers, verdict-held, verdict-broken}
+use Rattle.codremif.specs.AnswerLaws.{vars-most, judge-numbers, verdict-held, verdict-broken}
 
 -- a call answers `answer` and leaves the lent bytes as `bytes`
 abbrev pub Gives : List ℕ → ℕ → List ℕ → JudgeAnswer → List ℕ → Type 0
@@ -42,14 +41,6 @@ pub by-text : (text : List ℕ) (S : ℕ) (lent : List ℕ) {number line : ℕ} 
 by-text text S lent e = refused text S lent (judge-numbers text S lent .byText _ _ e)
 
 module _ {text : List ℕ} {m : Model} (r : IsRead text m) where
-  pub vars-le : m .vars ≤ 7
-  unfolding modelOf
-  vars-le = rw (r .model) (ranges text .vars)
-
-  pub rules-le : m .rules ≤ 16
-  unfolding modelOf
-  rules-le = rw (r .model) (ranges text .rules)
-
   pub rules-is : m .rules ≡ modelOf text .rules
   rules-is = ap (λ x. x .rules) (r .model)
 
@@ -108,6 +99,6 @@ module _ {text : List ℕ} {m : Model} (r : IsRead text m) where
     pub trace-fits : (t .length ≤ 128) × (t .length ≤ length (t .states))
     unfolding M systemIn systemOf
     trace-fits = (
-      omega (arith, trace-short M, ap (λ x. x .length) trace-is, states-le (modelOf text .vars) (rw (r .model) at vars-le)),
+      omega (arith, trace-short M, ap (λ x. x .length) trace-is, states-le (modelOf text .vars) (vars-most text)),
       omega (arith, ap length states-are, length-take (t .length) (t .states), length-is),
     )

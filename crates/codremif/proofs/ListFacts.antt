@@ -25,7 +25,7 @@ use Rattle.cores.specs.Seeds.{judgedBy}
 use Rattle.codremif.specs.declared.answers.ListAnswer.the-variants.{Refused as ListRefused}
 use Rattle.codremif.specs.declared.answers.MustAnswer.the-variants.{Refused as MustRefused, Set}
 use Rattle.codremif.specs.Answers.{IsRead, textOutcome, coresIn, cutsIn, mustIn, listOutcome, listAnswer, listBytes, coresAnswer, coresBytes, cutsAnswer, cutsBytes, mustAnswer}
-use Rattle.codremif.proofs.JudgeFacts.{vars-le, rules-le}
+use Rattle.codremif.specs.AnswerLaws.{vars-le, rules-le}
 
 -- the judgement by the tables of a model, whose masks went over what was there before
 abbrev byTables : List ℕ → List ℕ → Model → ℕ → Bool

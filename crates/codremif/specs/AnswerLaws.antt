@@ -10,10 +10,12 @@ use borrow.Author.Tests.{le-leb, lt-leb, lt-ltb, le-ltb}
 use lib.Dec.{leb, ltb}
 use lib.ListN.{length}
 use Rattle.sets.specs.Lists.{bytesOf, overwritten, length-bytesOf}
+use Rattle.models.specs.declared.model.Model.{Model}
 use Rattle.models.specs.declared.model.Outcome.{Outcome}
 use Rattle.models.specs.declared.model.Outcome.the-variants.{Accepted, Refused}
 use Rattle.models.specs.declared.model.Reading.{Reading}
 use Rattle.models.specs.Reading.{readModel}
+use Rattle.models.specs.Ranges.{ranges}
 use Rattle.systems.specs.System.{System}
 use Rattle.systems.specs.Verdict.{holds, traceOf}
 use Rattle.codremif.specs.declared.answers.JudgeAnswer.{JudgeAnswer}
@@ -32,6 +34,22 @@ module _ (text : List ℕ) {r : Reading} (said : r ≡ readModel text) where
   pub is-refused : {number line : ℕ} → r .outcome ≡ Refused number line → textOutcome text ≡ Refused number line
   unfolding textOutcome
   is-refused e = ap (λ x. x .outcome) (sym said) ∙ e
+
+-- Of any text N is at most 7 and R at most 16.
+pub vars-most : (text : List ℕ) → modelOf text .vars ≤ 7
+unfolding modelOf
+vars-most text = ranges text .vars
+
+pub rules-most : (text : List ℕ) → modelOf text .rules ≤ 16
+unfolding modelOf
+rules-most text = ranges text .rules
+
+module _ {text : List ℕ} {m : Model} (r : IsRead text m) where
+  pub vars-le : m .vars ≤ 7
+  vars-le = rw (r .model) (vars-most text)
+
+  pub rules-le : m .rules ≤ 16
+  rules-le = rw (r .model) (rules-most text)
 
 -- ---- the first number that fits
 

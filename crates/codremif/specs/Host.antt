@@ -22,6 +22,7 @@ use Rattle.systems.specs.Judged.{judged}
 use Rattle.systems.specs.Meaning.{systemOf, judge}
 use Rattle.codremif.specs.declared.answers.JudgeAnswer.the-variants.{Holds, Broken}
 use Rattle.codremif.specs.Answers.{modelOf, systemIn, traceIn, coresIn, cutsIn, mustIn, _orElse_, refusedIf, textOutcome, judgeOutcome, listOutcome, verdictOf, verdictOn, countOf, setOf, judgeAnswer, coresAnswer, cutsAnswer, mustAnswer}
+use Rattle.codremif.specs.AnswerLaws.{vars-most, rules-most}
 use Rattle.codremif.specs.Packing.{InRange, Parts, accepted, refused, judgeParts, listParts, mustParts, packed, Unpacked, unpacked}
 use Rattle.models.specs.Ranges.{Refusal, ranges}
 
@@ -67,19 +68,11 @@ list-numbered text sets lent =
 
 -- ---- the lengths, counts and sets
 
-vars-le : (text : List ℕ) → modelOf text .vars ≤ 7
-unfolding modelOf
-vars-le text = ranges text .vars
-
-pub rules-le : (text : List ℕ) → modelOf text .rules ≤ 16
-unfolding modelOf
-rules-le text = ranges text .rules
-
 pub trace-le : (text : List ℕ) (S : ℕ) → length (traceOf (systemIn text S)) ≤ 128
 unfolding systemIn systemOf
 trace-le text S =
     let h : length (traceOf (systemIn text S)) ≤ 2 ^ modelOf text .vars = judged (systemIn text S) .at-most-size in
-    omega (arith, pow-mono (vars-le text))
+    omega (arith, pow-mono (vars-most text))
 
 joined-length : (g : ℕ → List ℕ) (most : ℕ) → ((k : ℕ) → length (g k) ≤ most) → (n : ℕ) → length (joined g n) ≤ n * most
 unfolding joined
@@ -100,11 +93,11 @@ list-length R q h = omega (arith, length-listOf R q, select-length q (2 ^ R), po
 
 pub cores-le : (text : List ℕ) → length (coresIn text) ≤ 65536
 unfolding coresIn coresOf
-cores-le text = list-length (modelOf text .rules) _ (rules-le text)
+cores-le text = list-length (modelOf text .rules) _ (rules-most text)
 
 pub cuts-le : (text : List ℕ) → length (cutsIn text) ≤ 65536
 unfolding cutsIn cutsOf
-cuts-le text = list-length (modelOf text .rules) _ (rules-le text)
+cuts-le text = list-length (modelOf text .rules) _ (rules-most text)
 
 -- ---- what the host reads
 
@@ -164,4 +157,4 @@ pub must-reads : (text : List ℕ) → HostReads (textOutcome text) (mustParts (
 unfolding mustAnswer mustIn
 must-reads text =
     let h : mustIn text < 2 ^ modelOf text .rules = must-below (modelOf text .rules) (judge text (modelOf text)) in
-    set-reads (mustIn text) (text-numbered text) (omega (arith, pow-mono (rules-le text)))
+    set-reads (mustIn text) (text-numbered text) (omega (arith, pow-mono (rules-most text)))

@@ -28,7 +28,7 @@ use Rattle.codremif.specs.Packing.{listParts}
 use Rattle.codremif.specs.Host.{trace-le, cores-le, cuts-le}
 use Rattle.reports.specs.Report.{verdictKey, brokenWord, holdsWord, stateKey, numberLine, verdictLines}
 use Rattle.reports.specs.Decoded.{decoded, AllBelow, decoded-bytes}
-use Rattle.reports.proofs.Naming.{read-rules}
+use Rattle.codremif.specs.AnswerLaws.{rules-le}
 
 -- ---- the verdict on the full set
 
@@ -137,13 +137,13 @@ module _ (text : List ℕ) (m : Model) (r : IsRead text m) (lent : List ℕ) (ro
   pub cores-listed : (a ≡ coresAnswer text lent) × (bytes ≡ coresBytes text lent) → Listed (m .rules) (coresIn text) (listParts a .amount) bytes
   unfolding coresIn coresOf
   cores-listed said =
-      listed (m .rules) (coresIn text) lent bytes a (read-rules text m r)
+      listed (m .rules) (coresIn text) lent bytes a (rules-le r)
       (record { each = λ i l. rw (r .model) (mem-listOf (modelOf text .rules) _ _ .0 (at-place (coresIn text) i l) .0) })
       (rw (said .0, said .1) (cores-enough text (r .outcome) lent (omega (arith, room, cores-le text))))
 
   pub cuts-listed : (a ≡ cutsAnswer text lent) × (bytes ≡ cutsBytes text lent) → Listed (m .rules) (cutsIn text) (listParts a .amount) bytes
   unfolding cutsIn cutsOf
   cuts-listed said =
-      listed (m .rules) (cutsIn text) lent bytes a (read-rules text m r)
+      listed (m .rules) (cutsIn text) lent bytes a (rules-le r)
       (record { each = λ i l. rw (r .model) (mem-listOf (modelOf text .rules) _ _ .0 (at-place (cutsIn text) i l) .0) })
       (rw (said .0, said .1) (cuts-enough text (r .outcome) lent (omega (arith, room, cuts-le text))))

@@ -14,12 +14,9 @@ use Rattle.sets.specs.Lists.{select}
 use Rattle.sets.specs.First.{select-first, select-none, first-below}
 use Rattle.models.specs.declared.model.Model.{Model}
 use Rattle.codremif.specs.Answers.{modelOf, IsRead}
-use Rattle.codremif.specs.Host.{rules-le}
+use Rattle.codremif.specs.AnswerLaws.{rules-le}
 use Rattle.reports.specs.Page.{Page, putByte, put, put-append, length-byte, length-put}
 use Rattle.reports.specs.Report.{separated, ruleName, namesOf}
-
-pub read-rules : (text : List ℕ) (m : Model) → IsRead text m → m .rules ≤ 16
-read-rules text m r = rw (r .model) (rules-le text)
 
 -- a first rule is a rule
 pub first-rule : (R S : ℕ) → R ≤ 16 → S ≢ 0 → S < 2 ^ R → trailingZeros 16 S < 16
@@ -55,7 +52,7 @@ module _ (text : List ℕ) (m : Model) (r : IsRead text m) (S : ℕ) (some : S �
   rules-are : select (has S) (m .rules) ≡ t ∷ select (has U) (m .rules)
   rules-are =
       let e : U ≡ without S (trailingZeros 16 S) = less ∙ ap (without S) first in
-      rw (first, e) (select-first (m .rules) S (read-rules text m r) some below)
+      rw (first, e) (select-first (m .rules) S (rules-le r) some below)
 
   pub fewer : length (select (has U) (m .rules)) < length (select (has S) (m .rules))
   fewer = omega (arith, ap length rules-are)

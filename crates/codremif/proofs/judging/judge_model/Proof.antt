@@ -5,7 +5,8 @@ use mathlib.Core.Path.{_≡_, _∙_}
 use native.Mathlib.Omega.{arith}
 use borrow.Author.Needs.{needs}
 use lib.Pow.{pow-mono}
-use Rattle.codremif.proofs.JudgeFacts.{vars-le, rules-le, by-set, by-length, by-none, by-trace, trace-fits}
+use Rattle.codremif.specs.AnswerLaws.{vars-le, rules-le}
+use Rattle.codremif.proofs.JudgeFacts.{by-set, by-length, by-none, by-trace, trace-fits}
 use Rattle.codremif.proofs.judging.judge_model.Statement.{statement}
 use Rattle.codremif.proofs.judging.judge_model.Tie as tie
 

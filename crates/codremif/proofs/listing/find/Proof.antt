@@ -1,6 +1,6 @@
 -- `codremif::listing::find` meets its contract: the judgement by the tables of the model is the judgement of the model.
 -- Assumes nothing.
-use Rattle.codremif.proofs.JudgeFacts.{vars-le, rules-le}
+use Rattle.codremif.specs.AnswerLaws.{vars-le, rules-le}
 use Rattle.codremif.proofs.ListFacts.{tables-fit, tables-asked, cores-found, cuts-found}
 use Rattle.codremif.proofs.listing.find.Statement.{statement}
 use Rattle.codremif.proofs.listing.find.Tie as tie

@@ -1,6 +1,6 @@
 -- `codremif::listing::list_in` meets its contract: either array has room for the masks. Assumes nothing.
 use native.Mathlib.Omega.{arith}
-use Rattle.codremif.proofs.JudgeFacts.{vars-le}
+use Rattle.codremif.specs.AnswerLaws.{vars-le}
 use Rattle.codremif.proofs.Room.{repeats, masks-room}
 use Rattle.codremif.proofs.listing.list_in.Statement.{statement}
 use Rattle.codremif.proofs.listing.list_in.Tie as tie

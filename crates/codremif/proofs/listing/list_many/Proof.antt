@@ -6,7 +6,7 @@ use mathlib.Core.Bool.{true, false}
 use native.Mathlib.Omega.{arith}
 use Rattle.sets.specs.Bit.{full}
 use Rattle.cores.specs.Tables.{repeated}
-use Rattle.codremif.proofs.JudgeFacts.{rules-le}
+use Rattle.codremif.specs.AnswerLaws.{rules-le}
 use Rattle.codremif.proofs.Room.{repeats, sets-room, all-set, none-set, words-fit, words-long}
 use Rattle.codremif.proofs.listing.list_many.Statement.{statement}
 use Rattle.codremif.proofs.listing.list_many.Tie as tie

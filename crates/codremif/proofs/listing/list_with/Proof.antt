@@ -6,7 +6,7 @@ use mathlib.Core.List.{List}
 use Prim.Native.Nat.{ℕ}
 use native.Mathlib.Omega.{arith}
 use Rattle.codremif.specs.Answers.{coresIn, cutsIn, listAnswer, listBytes}
-use Rattle.codremif.proofs.JudgeFacts.{rules-le}
+use Rattle.codremif.specs.AnswerLaws.{rules-le}
 use Rattle.codremif.proofs.listing.list_with.Statement.{statement}
 use Rattle.codremif.proofs.listing.list_with.Tie as tie
 

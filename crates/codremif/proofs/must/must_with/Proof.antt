@@ -1,6 +1,6 @@
 -- `codremif::must::must_with` meets its contract: the judgement by the tables of the model is the judgement of the model.
 -- Assumes nothing.
-use Rattle.codremif.proofs.JudgeFacts.{vars-le, rules-le}
+use Rattle.codremif.specs.AnswerLaws.{vars-le, rules-le}
 use Rattle.codremif.proofs.ListFacts.{tables-fit, tables-asked, tables-must}
 use Rattle.codremif.proofs.must.must_with.Statement.{statement}
 use Rattle.codremif.proofs.must.must_with.Tie as tie

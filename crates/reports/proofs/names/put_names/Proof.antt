@@ -8,7 +8,8 @@ use Rattle.sets.specs.Bit.{has}
 use Rattle.sets.specs.Lists.{select}
 use Rattle.reports.specs.Page.{Page, pageOf, length-put}
 use Rattle.reports.proofs.Putting.{put-as, both-put}
-use Rattle.reports.proofs.Naming.{Naming, read-rules, first-rule, started, still-below, fewer, next-named, all-named, empty-named, names-are}
+use Rattle.codremif.specs.AnswerLaws.{rules-le}
+use Rattle.reports.proofs.Naming.{Naming, first-rule, started, still-below, fewer, next-named, all-named, empty-named, names-are}
 use Rattle.reports.proofs.names.put_names.Statement.{statement}
 use Rattle.reports.proofs.names.put_names.Tie as tie
 
@@ -29,18 +30,18 @@ put-names-spec =
     (λ c. search needs)
     (λ c. c .before .before .put-byte .ensures ∙ empty-named _ _ _ (c .before .before .before .before .if1 .taken))
     (λ c κs. search needs)
-    (λ c κs. (c .before .before .before .before .before .before .pre .0, omega (arith, first-rule _ _ (read-rules _ _ (c .before .before .before .before .before .before .pre .0)) (c .before .before .if1 .left) (c .before .before .before .before .before .before .pre .1), c .before .first .ensures)))
-    (λ c κs. omega (arith, first-rule _ _ (read-rules _ _ (c .before .before .before .before .before .before .before .before .before .pre .0)) (c .before .before .before .before .before .if1 .left) (c .before .before .before .before .before .before .before .before .before .pre .1), c .before .before .before .before .first .ensures))
+    (λ c κs. (c .before .before .before .before .before .before .pre .0, omega (arith, first-rule _ _ (rules-le (c .before .before .before .before .before .before .pre .0)) (c .before .before .if1 .left) (c .before .before .before .before .before .before .pre .1), c .before .first .ensures)))
+    (λ c κs. omega (arith, first-rule _ _ (rules-le (c .before .before .before .before .before .before .before .before .before .pre .0)) (c .before .before .before .before .before .if1 .left) (c .before .before .before .before .before .before .before .before .before .pre .1), c .before .before .before .before .first .ensures))
     (λ c.
     started _ _ _ _ (still-below _ _ (c .before .before .before .before .before .before .before .before .before .before .pre .0) _ (c .before .before .before .before .before .before .if1 .left) (c .before .before .before .before .before .before .before .before .before .before .pre .1) _ _ (c .before .before .before .before .before .first .ensures) (c .without .ensures)))
     (λ c κs. search needs)
     (λ c κs. search needs)
     (λ c κs. (
       c .before .before .before .before .before .before .before .before .before .before .before .before .before .before .before .before .before .before .before .pre .0,
-      omega (arith, first-rule _ _ (read-rules _ _ (c .before .before .before .before .before .before .before .before .before .before .before .before .before .before .before .before .before .before .before .pre .0)) (c .before .before .before .before .before .before .if2 .taken) (c .before .before .before .before .before .before .before .before .loop .inv .below), c .before .before .before .before .before .first2 .ensures),
+      omega (arith, first-rule _ _ (rules-le (c .before .before .before .before .before .before .before .before .before .before .before .before .before .before .before .before .before .before .before .pre .0)) (c .before .before .before .before .before .before .if2 .taken) (c .before .before .before .before .before .before .before .before .loop .inv .below), c .before .before .before .before .before .first2 .ensures),
     ))
     (λ c κs.
-    omega (arith, first-rule _ _ (read-rules _ _ (c .before .before .before .before .before .before .before .before .before .before .before .before .before .before .before .before .before .before .before .before .before .before .pre .0)) (c .before .before .before .before .before .before .before .before .before .if2 .taken) (c .before .before .before .before .before .before .before .before .before .before .before .loop .inv .below), c .before .before .before .before .before .before .before .before .first2 .ensures))
+    omega (arith, first-rule _ _ (rules-le (c .before .before .before .before .before .before .before .before .before .before .before .before .before .before .before .before .before .before .before .before .before .before .pre .0)) (c .before .before .before .before .before .before .before .before .before .if2 .taken) (c .before .before .before .before .before .before .before .before .before .before .before .loop .inv .below), c .before .before .before .before .before .before .before .before .first2 .ensures))
     (λ c.
     fewer _ _ (c .before .before .before .before .before .before .before .before .before .before .before .before .before .before .before .before .before .before .before .before .before .before .before .pre .0) _ (c .before .before .before .before .before .before .before .before .before .before .if2 .taken) (c .before .before .before .before .before .before .before .before .before .before .before .before .loop .inv .below) _ _ (c .before .before .before .before .before .before .before .before .before .first2 .ensures) (c .without2 .ensures))
     (λ c.

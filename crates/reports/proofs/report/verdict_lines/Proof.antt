@@ -5,7 +5,7 @@ use borrow.Author.Needs.{needs}
 use lib.ListN.{length-replicate}
 use Rattle.models.specs.Written.{line}
 use Rattle.reports.proofs.Putting.{put-as, both-put}
-use Rattle.reports.proofs.Naming.{read-rules}
+use Rattle.codremif.specs.AnswerLaws.{rules-le}
 use Rattle.reports.proofs.Called.{accepted-call, verdict-held, trace-fits, trace-length, verdict-broken}
 use Rattle.reports.proofs.report.verdict_lines.Statement.{statement}
 use Rattle.reports.proofs.report.verdict_lines.Tie as tie
@@ -15,7 +15,7 @@ unfolding line
 verdict-lines-spec =
     tie.close
     (tie.spec
-    (λ c κs. read-rules _ _ (c .before .before .pre))
+    (λ c κs. rules-le (c .before .before .pre))
     (λ c. search needs)
     (λ c. search needs)
     (λ c κs. search needs)
