@@ -88,11 +88,11 @@ extern "C" {
 #define CODREMIF_LIST_BYTES 25740
 
 /* The stack that a call needs: each, and the most of them. hosts/c/stack.c measures it, and fails where these say too little or far too much. */
-#define CODREMIF_JUDGE_STACK_BYTES 131072
-#define CODREMIF_CORES_STACK_BYTES 524288
-#define CODREMIF_CUTS_STACK_BYTES 589824
-#define CODREMIF_MUST_STACK_BYTES 131072
-#define CODREMIF_STACK_BYTES 589824
+#define CODREMIF_JUDGE_STACK_BYTES 65536
+#define CODREMIF_CORES_STACK_BYTES 262144
+#define CODREMIF_CUTS_STACK_BYTES 262144
+#define CODREMIF_MUST_STACK_BYTES 65536
+#define CODREMIF_STACK_BYTES 262144
 
 /*
  * Why a call is refused, in the words of document 01. Numbers 1 to 8 are tried line by line, in this order within a line; after the whole text
