@@ -1,7 +1,8 @@
 // The transition system of a model, computed once: the marks of its start states and bad states, and the mask of each pair of states.
 ghost use mathlib.Core.Path.{_≡_};
-ghost use mathlib.Core.Bool.{Bool·beq};
-ghost use Prim.Native.Nat.{_+_, _*_, _^_, _≤_, _<_};
+ghost use mathlib.Core.Bool.{_&&_, Bool·beq};
+ghost use Prim.Native.Nat.{_+_, _*_, _/_, _%_, _^_, _≤_, _<_};
+ghost use lib.Dec.{eqb, ltb};
 ghost use lib.ListN.{length, getD};
 ghost use Rattle.sets.specs.Bit.{has};
 ghost use Rattle.sets.specs.Gathered.{setOf};
@@ -88,21 +89,51 @@ fn rule_words(text: &[u8], m: Model, s: usize, block: usize) -> [u64; 16]
     words
 }
 
-// The set of the rules whose words have bit t.
-fn mask_at(words: &[u64; 16], rules: usize, t: usize) -> u16
+// The four lowest bits, 16 places apart: the product has the bits at 0, 15, 30 and 45, so that bit j of copy j stands at 16 * j.
+fn spread(bits: u64) -> u64
+    requires { ⌜ bits < 16 ⌝ }
+    ensures { λ r. ⌜ r ≡ setOf 64 (λ n. eqb (n % 16) 0 && has bits (n / 16)) ⌝ }
+{
+    bits * 0x2000_4000_8001 & 0x0001_0001_0001_0001
+}
+
+// The masks of the states t, t + 1, t + 2 and t + 3 side by side, 16 places each: bit t + j of the word of rule i goes to place 16 * j + i.
+// Four at once, because collecting each mask bit by bit took most of the time of a call.
+fn four_masks(words: &[u64; 16], rules: usize, t: usize) -> u64
     requires { ⌜ length (now words) ≡ 16 ⌝ }
     requires { ⌜ rules ≤ 16 ⌝ }
     requires { ⌜ t < 64 ⌝ }
-    ensures { λ r. ⌜ r ≡ setOf rules (λ i. has (getD (now (words .entry)) i 0) t) ⌝ }
+    ensures { λ r. ⌜ r ≡ setOf 64 (λ n. ltb (n % 16) rules && has (getD (now (words .entry)) (n % 16) 0) (t + n / 16)) ⌝ }
 {
-    let mut mask = 0u16;
+    let mut four = 0u64;
     let mut i = 0;
     while i < rules {
-        let bit = (words[i] >> t) % 2;
-        mask = mask | (bit as u16) << i;
+        let bits = (words[i] >> t) % 16;
+        four = four | spread(bits) << i;
         i += 1;
     }
-    mask
+    four
+}
+
+// Stores masks that stand side by side, as many as the part has entries.
+fn put_four(four: u64, part: &mut [u16])
+    requires { ⌜ length (now part) ≤ 4 ⌝ }
+    ensures { λ _. ⌜ now (part .exit) ≡ tabulate (length (now (part .entry))) (λ j. setOf 16 (λ i. has four (16 * j + i))) ⌝ }
+{
+    let mut j = 0;
+    while j < part.len() {
+        let mask = (four >> (16 * j)) % 65536;
+        part[j] = mask as u16;
+        j += 1;
+    }
+}
+
+// Four places on, or the end where that is nearer.
+fn four_on(t: usize, end: usize) -> usize
+    requires { ⌜ (t < end) × (end ≤ 64) ⌝ }
+    ensures { λ r. ⌜ (t < r) × ((r ≤ t + 4) × (r ≤ end)) ⌝ }
+{
+    if t + 4 < end { t + 4 } else { end }
 }
 
 // The masks of the pairs of s with the states from 64 * block on, as many as the part has entries.
@@ -116,8 +147,10 @@ fn fill_block(text: &[u8], m: Model, s: usize, block: usize, part: &mut [u16])
     let words = rule_words(text, m, s, block);
     let mut t = 0;
     while t < part.len() {
-        part[t] = mask_at(&words, rules, t);
-        t += 1;
+        let four = four_masks(&words, rules, t);
+        let to = four_on(t, part.len());
+        put_four(four, &mut part[t..to]);
+        t = to;
     }
 }
 
