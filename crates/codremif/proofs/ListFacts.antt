@@ -2,7 +2,7 @@
 -- From the laws of the tables (`systems`, `cores`) and of the answers.
 use Prim.Native.Nat.{ℕ, _-_, _*_, _^_, _≤_, _<_}
 use mathlib.Core.Path.{_≡_, sym, ap, _∙_}
-use mathlib.Core.Bool.{Bool, not}
+use mathlib.Core.Bool.{Bool, true, false, not}
 use mathlib.Core.List.{List}
 use native.Mathlib.Omega.{arith}
 use lib.ListN.{length}
@@ -24,7 +24,7 @@ use Rattle.cores.specs.Tables.{marked, Marks}
 use Rattle.cores.specs.Seeds.{judgedBy}
 use Rattle.codremif.specs.declared.answers.ListAnswer.the-variants.{Refused as ListRefused}
 use Rattle.codremif.specs.declared.answers.MustAnswer.the-variants.{Refused as MustRefused, Set}
-use Rattle.codremif.specs.Answers.{IsRead, textOutcome, coresIn, cutsIn, mustIn, listOutcome, listAnswer, listBytes, coresAnswer, coresBytes, cutsAnswer, cutsBytes, mustAnswer}
+use Rattle.codremif.specs.Answers.{IsRead, textOutcome, coresIn, cutsIn, listIn, mustIn, listOutcome, listAnswer, listBytes, coresAnswer, coresBytes, cutsAnswer, cutsBytes, mustAnswer}
 use Rattle.codremif.specs.AnswerLaws.{vars-le, rules-le}
 
 -- the judgement by the tables of a model, whose masks went over what was there before
@@ -80,13 +80,13 @@ module _ {text : List ℕ} {m : Model} (r : IsRead text m) where
           ∙ ap (λ x. mustOf (x .rules) (judge text x)) (r .model)
 
   -- what is answered and written of a list is the call's answer, since the text is accepted
-  pub cores-given : (sets lent : List ℕ) → sets ≡ coresIn text → (listAnswer sets lent ≡ coresAnswer text lent) × (listBytes sets lent ≡ coresBytes text lent)
-  unfolding listAnswer listBytes coresAnswer coresBytes listOutcome
-  cores-given sets lent q = (rw (q, r .outcome), rw (q, r .outcome))
+  pub cores-given : (lent : List ℕ) → (listAnswer (listIn false text) lent ≡ coresAnswer text lent) × (listBytes (listIn false text) lent ≡ coresBytes text lent)
+  unfolding listIn listAnswer listBytes coresAnswer coresBytes listOutcome
+  cores-given lent = (rw (r .outcome), rw (r .outcome))
 
-  pub cuts-given : (sets lent : List ℕ) → sets ≡ cutsIn text → (listAnswer sets lent ≡ cutsAnswer text lent) × (listBytes sets lent ≡ cutsBytes text lent)
-  unfolding listAnswer listBytes cutsAnswer cutsBytes listOutcome
-  cuts-given sets lent q = (rw (q, r .outcome), rw (q, r .outcome))
+  pub cuts-given : (lent : List ℕ) → (listAnswer (listIn true text) lent ≡ cutsAnswer text lent) × (listBytes (listIn true text) lent ≡ cutsBytes text lent)
+  unfolding listIn listAnswer listBytes cutsAnswer cutsBytes listOutcome
+  cuts-given lent = (rw (r .outcome), rw (r .outcome))
 
   pub must-given : (S : ℕ) → S ≡ mustIn text → Set S ≡ mustAnswer text
   unfolding mustAnswer

@@ -48,6 +48,11 @@ unfoldable pub cutsIn : List ℕ → List ℕ
 unfolding modelOf judge cutsOf
 cutsIn text = cutsOf (modelOf text .rules) (judge text (modelOf text))
 
+-- The core list; or with `dual` the cut list, for the cuts are the cores of the dual judgement.
+unfoldable pub listIn : (dual : Bool) → List ℕ → List ℕ
+listIn true text = cutsIn text
+listIn false text = coresIn text
+
 unfoldable pub mustIn : List ℕ → ℕ
 unfolding modelOf judge mustOf
 mustIn text = mustOf (modelOf text .rules) (judge text (modelOf text))

@@ -1,11 +1,11 @@
 // Listing the cores and the cuts: all of them are found first, then the list is counted, and only then written.
 ghost use mathlib.Core.Path.{_≡_};
-ghost use mathlib.Core.Bool.{true, false, cond};
+ghost use mathlib.Core.Bool.{true, false};
 ghost use Prim.Native.Nat.{_*_, _^_, _≤_};
 ghost use lib.ListN.{length};
 ghost use Rattle.sets.specs.Lists.{listOf};
 ghost use Rattle.cores.specs.Tables.{marked, Marks};
-ghost use Rattle.codremif.specs.Answers.{IsRead, coresIn, cutsIn, listAnswer, listBytes, coresAnswer, coresBytes, cutsAnswer, cutsBytes};
+ghost use Rattle.codremif.specs.Answers.{IsRead, coresIn, cutsIn, listIn, listAnswer, listBytes, coresAnswer, coresBytes, cutsAnswer, cutsBytes};
 use crate::answers::ListAnswer;
 use models::model::Model;
 use models::model::Outcome;
@@ -50,11 +50,11 @@ fn find(
     cores::seeds::find(masks, starts, bads, states, m.rules, unknown, cores, cuts);
 }
 
-// The list of the cuts, if these are wanted, and otherwise that of the cores. The caller lends the room for the tables.
+// The core list; or with `dual` the cut list, for the cuts are the cores of the dual judgement. The caller lends the room for the tables.
 fn list_with(
     text: &[u8],
     m: Model,
-    wanted: bool,
+    dual: bool,
     masks: &mut [u16],
     unknown: &mut [u64],
     cores: &mut [u64],
@@ -68,12 +68,12 @@ fn list_with(
     requires { ⌜ Marks (m .rules) (λ S. false) (now cores) ⌝ }
     requires { ⌜ Marks (m .rules) (λ S. false) (now cuts) ⌝ }
     requires { ⌜ 2 ^ m .rules ≤ length (now found) ⌝ }
-    ensures { λ r. ⌜ r ≡ listAnswer (cond wanted (cutsIn (now (text .entry))) (coresIn (now (text .entry)))) (now (lent .entry)) ⌝ }
+    ensures { λ r. ⌜ r ≡ listAnswer (listIn dual (now (text .entry))) (now (lent .entry)) ⌝ }
     ensures { λ _. ⌜
-        now (lent .exit) ≡ listBytes (cond wanted (cutsIn (now (text .entry))) (coresIn (now (text .entry)))) (now (lent .entry)) ⌝ }
+        now (lent .exit) ≡ listBytes (listIn dual (now (text .entry))) (now (lent .entry)) ⌝ }
 {
     find(text, m, masks, unknown, cores, cuts);
-    if wanted {
+    if dual {
         give_list(cuts, m.rules, found, lent)
     } else {
         give_list(cores, m.rules, found, lent)
@@ -81,13 +81,13 @@ fn list_with(
 }
 
 // Tables for at most 8 rules. Small models would spend most of their time clearing the tables for the most rules.
-fn list_few(text: &[u8], m: Model, wanted: bool, masks: &mut [u16], lent: &mut [u8]) -> ListAnswer
+fn list_few(text: &[u8], m: Model, dual: bool, masks: &mut [u16], lent: &mut [u8]) -> ListAnswer
     requires { ⌜ IsRead (now text) m ⌝ }
     requires { ⌜ 128 * 2 ^ m .vars ≤ length (now masks) ⌝ }
     requires { ⌜ m .rules ≤ 8 ⌝ }
-    ensures { λ r. ⌜ r ≡ listAnswer (cond wanted (cutsIn (now (text .entry))) (coresIn (now (text .entry)))) (now (lent .entry)) ⌝ }
+    ensures { λ r. ⌜ r ≡ listAnswer (listIn dual (now (text .entry))) (now (lent .entry)) ⌝ }
     ensures { λ _. ⌜
-        now (lent .exit) ≡ listBytes (cond wanted (cutsIn (now (text .entry))) (coresIn (now (text .entry)))) (now (lent .entry)) ⌝ }
+        now (lent .exit) ≡ listBytes (listIn dual (now (text .entry))) (now (lent .entry)) ⌝ }
 {
     let mut unknown = [0xFFFF_FFFF_FFFF_FFFFu64; 4];
     let mut cores = [0u64; 4];
@@ -97,7 +97,7 @@ fn list_few(text: &[u8], m: Model, wanted: bool, masks: &mut [u16], lent: &mut [
     list_with(
         text,
         m,
-        wanted,
+        dual,
         masks,
         &mut unknown[..words],
         &mut cores[..words],
@@ -108,12 +108,12 @@ fn list_few(text: &[u8], m: Model, wanted: bool, masks: &mut [u16], lent: &mut [
 }
 
 // Tables for any model's rules.
-fn list_many(text: &[u8], m: Model, wanted: bool, masks: &mut [u16], lent: &mut [u8]) -> ListAnswer
+fn list_many(text: &[u8], m: Model, dual: bool, masks: &mut [u16], lent: &mut [u8]) -> ListAnswer
     requires { ⌜ IsRead (now text) m ⌝ }
     requires { ⌜ 128 * 2 ^ m .vars ≤ length (now masks) ⌝ }
-    ensures { λ r. ⌜ r ≡ listAnswer (cond wanted (cutsIn (now (text .entry))) (coresIn (now (text .entry)))) (now (lent .entry)) ⌝ }
+    ensures { λ r. ⌜ r ≡ listAnswer (listIn dual (now (text .entry))) (now (lent .entry)) ⌝ }
     ensures { λ _. ⌜
-        now (lent .exit) ≡ listBytes (cond wanted (cutsIn (now (text .entry))) (coresIn (now (text .entry)))) (now (lent .entry)) ⌝ }
+        now (lent .exit) ≡ listBytes (listIn dual (now (text .entry))) (now (lent .entry)) ⌝ }
 {
     let mut unknown = [0xFFFF_FFFF_FFFF_FFFFu64; 1024];
     let mut cores = [0u64; 1024];
@@ -123,7 +123,7 @@ fn list_many(text: &[u8], m: Model, wanted: bool, masks: &mut [u16], lent: &mut 
     list_with(
         text,
         m,
-        wanted,
+        dual,
         masks,
         &mut unknown[..words],
         &mut cores[..words],
@@ -133,33 +133,33 @@ fn list_many(text: &[u8], m: Model, wanted: bool, masks: &mut [u16], lent: &mut 
     )
 }
 
-fn list_over(text: &[u8], m: Model, wanted: bool, masks: &mut [u16], lent: &mut [u8]) -> ListAnswer
+fn list_over(text: &[u8], m: Model, dual: bool, masks: &mut [u16], lent: &mut [u8]) -> ListAnswer
     requires { ⌜ IsRead (now text) m ⌝ }
     requires { ⌜ 128 * 2 ^ m .vars ≤ length (now masks) ⌝ }
-    ensures { λ r. ⌜ r ≡ listAnswer (cond wanted (cutsIn (now (text .entry))) (coresIn (now (text .entry)))) (now (lent .entry)) ⌝ }
+    ensures { λ r. ⌜ r ≡ listAnswer (listIn dual (now (text .entry))) (now (lent .entry)) ⌝ }
     ensures { λ _. ⌜
-        now (lent .exit) ≡ listBytes (cond wanted (cutsIn (now (text .entry))) (coresIn (now (text .entry)))) (now (lent .entry)) ⌝ }
+        now (lent .exit) ≡ listBytes (listIn dual (now (text .entry))) (now (lent .entry)) ⌝ }
 {
     if m.rules <= 8 {
-        list_few(text, m, wanted, masks, lent)
+        list_few(text, m, dual, masks, lent)
     } else {
-        list_many(text, m, wanted, masks, lent)
+        list_many(text, m, dual, masks, lent)
     }
 }
 
 // Masks for at most 3 letters, or for any model's letters: the reason is the same.
-fn list_in(text: &[u8], m: Model, wanted: bool, lent: &mut [u8]) -> ListAnswer
+fn list_in(text: &[u8], m: Model, dual: bool, lent: &mut [u8]) -> ListAnswer
     requires { ⌜ IsRead (now text) m ⌝ }
-    ensures { λ r. ⌜ r ≡ listAnswer (cond wanted (cutsIn (now (text .entry))) (coresIn (now (text .entry)))) (now (lent .entry)) ⌝ }
+    ensures { λ r. ⌜ r ≡ listAnswer (listIn dual (now (text .entry))) (now (lent .entry)) ⌝ }
     ensures { λ _. ⌜
-        now (lent .exit) ≡ listBytes (cond wanted (cutsIn (now (text .entry))) (coresIn (now (text .entry)))) (now (lent .entry)) ⌝ }
+        now (lent .exit) ≡ listBytes (listIn dual (now (text .entry))) (now (lent .entry)) ⌝ }
 {
     if m.vars <= 3 {
         let mut masks = [0u16; 1024];
-        list_over(text, m, wanted, &mut masks[..], lent)
+        list_over(text, m, dual, &mut masks[..], lent)
     } else {
         let mut masks = [0u16; 16384];
-        list_over(text, m, wanted, &mut masks[..], lent)
+        list_over(text, m, dual, &mut masks[..], lent)
     }
 }
 

@@ -1,6 +1,6 @@
 -- `codremif::listing::list_cuts` meets its contract: a refused text is answered by its number and line, and an accepted one as it is read.
 -- Assumes nothing.
-use mathlib.Core.Path.{refl, _∙_}
+use mathlib.Core.Path.{_∙_}
 use borrow.Author.Needs.{needs}
 use Rattle.codremif.specs.AnswerLaws.{is-read, is-refused}
 use Rattle.codremif.proofs.ListFacts.{cuts-given, cuts-refused}
@@ -18,5 +18,5 @@ list-cuts-spec =
     (λ c. cuts-refused _ _ (is-refused _ (c .before .before .before .read-model .ensures) (c .before .outcome .given .1)))
     (λ c. search needs)
     (λ c.
-    let g = cuts-given (is-read _ (c .before .before .before .before .before .before .before .read-model .ensures) (c .before .before .before .before .before .enum-told .given .1)) _ (c .before .before .before .before .before .before .before .before .before .before .args .lent .now) refl in
+    let g = cuts-given (is-read _ (c .before .before .before .before .before .before .before .read-model .ensures) (c .before .before .before .before .before .enum-told .given .1)) (c .before .before .before .before .before .before .before .before .before .before .args .lent .now) in
     (c .before .before .list-in .ensures .0 ∙ g .0, c .before .before .list-in .ensures .1 ∙ g .1)))

@@ -1,4 +1,4 @@
--- `codremif::listing::list_over` meets its contract: with either tables the list is the one that is wanted. Assumes nothing.
+-- `codremif::listing::list_over` meets its contract: with either tables the list is the one that is asked for. Assumes nothing.
 use native.Mathlib.Omega.{arith}
 use Rattle.codremif.proofs.listing.list_over.Statement.{statement}
 use Rattle.codremif.proofs.listing.list_over.Tie as tie

@@ -1,21 +1,23 @@
--- `codremif::listing::list_with` meets its contract: the table that is listed is the one that is wanted.
+-- `codremif::listing::list_with` meets its contract: the table that is listed is the one that is asked for.
 -- Assumes nothing.
-use mathlib.Core.Path.{_≡_, sym, ap, _∙_}
-use mathlib.Core.Bool.{Bool, true, false, cond}
+use mathlib.Core.Path.{_≡_, ap, _∙_}
+use mathlib.Core.Bool.{Bool, true, false}
 use mathlib.Core.List.{List}
 use Prim.Native.Nat.{ℕ}
 use native.Mathlib.Omega.{arith}
-use Rattle.codremif.specs.Answers.{coresIn, cutsIn, listAnswer, listBytes}
+use Rattle.codremif.specs.Answers.{coresIn, cutsIn, listIn, listAnswer, listBytes}
 use Rattle.codremif.specs.AnswerLaws.{rules-le}
 use Rattle.codremif.proofs.listing.list_with.Statement.{statement}
 use Rattle.codremif.proofs.listing.list_with.Tie as tie
 
--- the wanted list
-first : {b : Bool} {x y : List ℕ} (z : List ℕ) → b ≡ true → x ≡ y → x ≡ cond b y z
-first z t e = rw t e
+-- the list that is asked for
+first : {b : Bool} {x : List ℕ} (text : List ℕ) → b ≡ true → x ≡ cutsIn text → x ≡ listIn b text
+unfolding listIn
+first text t e = rw t e
 
-second : {b : Bool} {x z : List ℕ} (y : List ℕ) → b ≡ false → x ≡ z → x ≡ cond b y z
-second y f e = rw f e
+second : {b : Bool} {x : List ℕ} (text : List ℕ) → b ≡ false → x ≡ coresIn text → x ≡ listIn b text
+unfolding listIn
+second text f e = rw f e
 
 pub list-with-spec : {M : Type 1} → statement M
 list-with-spec =
@@ -37,7 +39,7 @@ list-with-spec =
     (λ c.
     let lent = c .before .before .before .before .before .before .before .before .before .before .before .before .before .before .before .before .before .before .before .before .before .before .before .before .before .before .before .before .before .args .lent .now in
     let text = c .before .before .before .before .before .before .before .before .before .before .before .before .before .before .before .before .before .before .before .before .before .before .before .before .before .before .before .before .before .args .text .now in
-    let listed = first (coresIn text) (c .before .before .before .before .before .before .before .before .if1 .taken) (c .before .before .before .before .before .before .before .before .before .before .before .before .before .before .before .before .before .find .ensures .1) in
+    let listed = first text (c .before .before .before .before .before .before .before .before .if1 .taken) (c .before .before .before .before .before .before .before .before .before .before .before .before .before .before .before .before .before .find .ensures .1) in
     (c .before .before .before .before .give-list .ensures .0 ∙ ap (λ (l : List ℕ). listAnswer l lent) listed, c .before .before .before .before .give-list .ensures .1 ∙ ap (λ (l : List ℕ). listBytes l lent) listed))
     (λ c. c .before .before .before .before .before .before .before .before .before .before .before .before .before .before .before .before .masks .given)
     (λ c. c .before .before .before .before .before .before .before .before .before .before .before .before .before .before .unknown .given)
@@ -48,5 +50,5 @@ list-with-spec =
     (λ c.
     let lent = c .before .before .before .before .before .before .before .before .before .before .before .before .before .before .before .before .before .before .before .before .before .before .before .before .before .before .before .before .before .args .lent .now in
     let text = c .before .before .before .before .before .before .before .before .before .before .before .before .before .before .before .before .before .before .before .before .before .before .before .before .before .before .before .before .before .args .text .now in
-    let listed = second (cutsIn text) (c .before .before .before .before .before .before .before .before .if1 .left) (c .before .before .before .before .before .before .before .before .before .before .before .before .before .before .before .before .before .find .ensures .0) in
+    let listed = second text (c .before .before .before .before .before .before .before .before .if1 .left) (c .before .before .before .before .before .before .before .before .before .before .before .before .before .before .before .before .before .find .ensures .0) in
     (c .before .before .before .before .give-list2 .ensures .0 ∙ ap (λ (l : List ℕ). listAnswer l lent) listed, c .before .before .before .before .give-list2 .ensures .1 ∙ ap (λ (l : List ℕ). listBytes l lent) listed)))
