@@ -1,6 +1,6 @@
--- How the sets of a monotone judgement are gone over: which sets are still open, and which cores and cuts have been found. The first open
--- set by number is the seed: if it holds it is a core, and otherwise it grows to a broken set with no rule to spare, which leaves a cut.
--- The laws: what a seed adds is right, and once no set is open every core and every cut has been found. From monotonicity.
+-- How the sets of a monotone judgement are gone over: of which sets nothing is known yet, and which cores and cuts have been found. The first
+-- set by number of which nothing is known is the seed: if it holds it is a core, and otherwise it grows to a broken set with no rule to spare,
+-- which leaves a cut. The laws: what a seed adds is right, and once no set is left every core and every cut has been found. From monotonicity.
 use Prim.Native.Nat.{ℕ, _+_, _-_, _*_, _^_, _≤_, _<_}
 use mathlib.Core.Path.{_≡_, refl, sym, ap, _∙_}
 use mathlib.Core.Logic.{_↔_, _≢_, _⊎_, inl, inr, ⊎-elim}
@@ -38,7 +38,7 @@ pub record Found (R : ℕ) (h unknown cores cuts : ℕ → Bool) : Type 0 where
   pub areCores : (S : ℕ) → S < 2 ^ R → cores S ≡ true → Core h S
   pub areCuts : (S : ℕ) → S < 2 ^ R → cuts S ≡ true → Cut R h S
 
--- The first open set by number.
+-- The first set by number of which nothing is known.
 pub record Seed (R : ℕ) (unknown : ℕ → Bool) (S : ℕ) : Type 0 where
   pub below : S < 2 ^ R
   pub itself : unknown S ≡ true
@@ -253,7 +253,7 @@ module _ (R : ℕ) (h : ℕ → Bool) (mono : Monotone R h) (unknown cores cuts 
         before : (T : ℕ) → T < 2 ^ R → unknown' T ≡ false → h T ≡ true → unknown T ≡ false
         before T l c t = ⊎-elim (λ q. absurd (true≢false (sym t ∙ broken-below R h mono M T (g .below) q (g .broken)))) (λ q. q) (was T l c)
 
--- ---- once no set is open
+-- ---- once no set is left
 
 module _ (R : ℕ) (h unknown cores cuts : ℕ → Bool) (f : Found R h unknown cores cuts) (none : (S : ℕ) → S < 2 ^ R → unknown S ≡ false) (S : ℕ) (l : S < 2 ^ R) where
   pub all-cores : cores S ≡ isCore h S

@@ -1,6 +1,6 @@
-// All cores and all cuts with few judgements. A set of which nothing is known yet is open, and the first open set by number is the seed. One
-// that holds is a core, since its parts have smaller numbers and are known to be broken. A broken one grows while it stays broken, and what
-// it then lacks is a cut. So one judgement settles as many sets as it can, and no set of which something is known is judged.
+// All cores and all cuts with few judgements. The first set by number of which nothing is known yet is the seed. One that holds is a core, since
+// its parts have smaller numbers and are known to be broken. A broken one grows while it stays broken, and what it then lacks is a cut. So one
+// judgement settles as many sets as it can, and no set of which something is known is judged.
 ghost use mathlib.Core.Path.{_≡_};
 ghost use mathlib.Core.Bool.{true, false, not, _&&_};
 ghost use Prim.Native.Nat.{_*_, _^_, _≤_, _<_};
@@ -28,8 +28,8 @@ fn judged(
     systems::judging::is_held(masks, starts, bads, states, set.0)
 }
 
-// Whether a rule can be added to a broken set so that it stays broken. If something is known of the larger set it is that it holds, so only an
-// open one is judged.
+// Whether a rule can be added to a broken set so that it stays broken. If something is known of the larger set it is that it holds, so only a
+// set of which nothing is known is judged.
 fn stays_broken(
     masks: &[u16],
     starts: [bool; 128],
@@ -111,7 +111,7 @@ fn settle(
     }
 }
 
-// Marks the cores and the cuts. Every set is open when it is called, and no core or cut is marked.
+// Marks the cores and the cuts. When it is called nothing is known of any set, and no core or cut is marked.
 pub fn find(
     masks: &[u16],
     starts: [bool; 128],

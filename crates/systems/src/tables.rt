@@ -1,7 +1,7 @@
 // The transition system of a model, computed once: the marks of its start states and bad states, and the mask of each pair of states.
 ghost use mathlib.Core.Path.{_≡_};
 ghost use mathlib.Core.Bool.{_&&_, Bool·beq};
-ghost use Prim.Native.Nat.{_+_, _*_, _/_, _%_, _^_, _≤_, _<_};
+ghost use Prim.Native.Nat.{_+_, _*_, _/_, _%_, _^_, _≤_, _<_, min};
 ghost use lib.Dec.{eqb, ltb};
 ghost use lib.ListN.{length, getD};
 ghost use Rattle.sets.specs.Bit.{has};
@@ -131,7 +131,7 @@ fn put_four(four: u64, part: &mut [u16])
 // Four places on, or the end where that is nearer.
 fn four_on(t: usize, end: usize) -> usize
     requires { ⌜ (t < end) × (end ≤ 64) ⌝ }
-    ensures { λ r. ⌜ (t < r) × ((r ≤ t + 4) × (r ≤ end)) ⌝ }
+    ensures { λ r. ⌜ r ≡ min (t + 4) end ⌝ }
 {
     if t + 4 < end { t + 4 } else { end }
 }

@@ -1,6 +1,6 @@
 -- `systems::tables::fill_block` meets its contract. The loop's invariant: the first t entries are masks, and the others are as they came;
 -- a turn fills four entries, or what is left. Assumes nothing.
-use Prim.Native.Nat.{ℕ, _+_, _-_, _*_, _<_, _≤_}
+use Prim.Native.Nat.{ℕ, _+_, _-_, _*_, _<_, _≤_, min}
 use mathlib.Core.Path.{_≡_, ap, _∙_}
 use mathlib.Core.List.{List}
 use native.Mathlib.Omega.{arith}
@@ -23,12 +23,12 @@ abbrev maskIn : (words : List ℕ) (rules t : ℕ) → ℕ
 maskIn words rules t = setOf rules (λ i. has (getD words i 0) t)
 
 -- the entries from t up to e come back with the masks that stand side by side
-module _ (words : List ℕ) (rules : ℕ) (row₀ row : List ℕ) (t e : ℕ) (h : Filled (maskIn words rules) row₀ row t) (l : (t < e) × ((e ≤ t + 4) × (e ≤ length row))) where
+module _ (words : List ℕ) (rules : ℕ) (row₀ row : List ℕ) (t e : ℕ) (h : Filled (maskIn words rules) row₀ row t) (l : t < length row) (m : e ≡ min (t + 4) (length row)) where
   four-filled : (four : ℕ) (part : List ℕ) → rules ≤ 16 → four ≡ setOf 64 (inFour words t rules)
       → part ≡ tabulate (length (take (e - t) (drop t row))) (λ j. setOf 16 (λ i. has four (16 * j + i)))
       → Filled (maskIn words rules) row₀ (putMid t (e - t) row part) e
   four-filled four part few is said =
-      part-filled (maskIn words rules) row₀ row t h e part (omega arith) (l .1 .1)
+      part-filled (maskIn words rules) row₀ row t h e part (omega arith) (omega arith)
       (said
       ∙ same-entries (length (take (e - t) (drop t row))) _ (λ j. maskIn words rules (t + j))
       (λ j b. mask-in-four words rules t four j few (omega (arith, length-take (e - t) (drop t row))) is))
@@ -64,10 +64,10 @@ fill-block-spec =
     (λ c. omega arith)
     (λ c. omega arith)
     (λ c. omega arith)
-    (λ c. omega (arith, c .four-on .ensures .1 .1))
-    (λ c κs. omega (arith, length-take (c .before .four-on .result - c .before .before .before .before .before .loop .t) (drop (c .before .before .before .before .before .loop .t) (c .before .before .before .before .before .loop .part)), c .before .four-on .ensures .1 .0))
+    (λ c. omega (arith, c .four-on .ensures))
+    (λ c κs. omega (arith, length-take (c .before .four-on .result - c .before .before .before .before .before .loop .t) (drop (c .before .before .before .before .before .loop .t) (c .before .before .before .before .before .loop .part)), c .before .four-on .ensures))
     (λ c. omega arith)
-    (λ c. four-filled (c .before .before .before .before .before .before .before .before .before .rule-words .result) _ _ _ _ _ (c .before .before .before .before .before .before .before .before .loop .inv) (c .before .before .before .before .four-on .ensures) _ _ (c .before .before .before .before .before .before .before .before .before .before .before .before .pre .0) (c .before .before .before .before .before .four-masks .ensures) (c .before .before .put-four .ensures))
+    (λ c. four-filled (c .before .before .before .before .before .before .before .before .before .rule-words .result) _ _ _ _ _ (c .before .before .before .before .before .before .before .before .loop .inv) (c .before .before .before .before .before .before .before .loop-test .taken) (c .before .before .before .before .four-on .ensures) _ _ (c .before .before .before .before .before .before .before .before .before .before .before .before .pre .0) (c .before .before .before .before .before .four-masks .ensures) (c .before .before .put-four .ensures))
     (λ c. c .before .loop .inv .kept)
     (λ c.
     let p = c .before .before .before .before .before .pre in
