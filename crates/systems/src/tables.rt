@@ -116,7 +116,7 @@ fn four_masks(words: &[u64; 16], rules: usize, t: usize) -> u64
 }
 
 // Stores masks that stand side by side, as many as the part has entries.
-fn put_four(four: u64, part: &mut [u16])
+fn put_some(four: u64, part: &mut [u16])
     requires { ⌜ length (now part) ≤ 4 ⌝ }
     ensures { λ _. ⌜ now (part .exit) ≡ tabulate (length (now (part .entry))) (λ j. setOf 16 (λ i. has four (16 * j + i))) ⌝ }
 {
@@ -125,6 +125,21 @@ fn put_four(four: u64, part: &mut [u16])
         let mask = (four >> (16 * j)) % 65536;
         part[j] = mask as u16;
         j += 1;
+    }
+}
+
+// The same of all four, one store for each.
+fn put_four(four: u64, part: &mut [u16])
+    requires { ⌜ length (now part) ≤ 4 ⌝ }
+    ensures { λ _. ⌜ now (part .exit) ≡ tabulate (length (now (part .entry))) (λ j. setOf 16 (λ i. has four (16 * j + i))) ⌝ }
+{
+    if part.len() < 4 {
+        put_some(four, part);
+    } else {
+        part[0] = (four % 65536) as u16;
+        part[1] = ((four >> 16) % 65536) as u16;
+        part[2] = ((four >> 32) % 65536) as u16;
+        part[3] = ((four >> 48) % 65536) as u16;
     }
 }
 

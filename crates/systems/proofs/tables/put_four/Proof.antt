@@ -1,35 +1,55 @@
--- `systems::tables::put_four` meets its contract. The loop's invariant: after j turns the first j entries are masks, and the others are
--- as they came. Assumes nothing.
-use Prim.Native.Nat.{_+_, _-_, _*_}
+-- `systems::tables::put_four` meets its contract: each store fills the next entry, and after four none is left. Assumes nothing.
+use Prim.Native.Nat.{ℕ, _+_, _*_, _/_, _%_, _^_, _≤_}
+use mathlib.Core.Path.{_≡_, _∙_}
+use mathlib.Core.List.{List}
 use native.Mathlib.Omega.{arith}
-use lib.ListN.{length, length-set}
+use borrow.Author.Needs.{needs}
+use lib.ListN.{length, set, length-set}
 use Rattle.sets.specs.Bit.{has}
 use Rattle.sets.specs.Gathered.{setOf}
+use Rattle.systems.specs.Tabulated.{tabulate}
 use Rattle.systems.proofs.Filling.{Filled, none-filled, one-filled, all-filled}
 use Rattle.systems.proofs.Fours.{quarter}
 use Rattle.systems.proofs.tables.put_four.Statement.{statement}
 use Rattle.systems.proofs.tables.put_four.Tie as tie
 
-abbrev Inv-loop : tie.InvT-loop
-Inv-loop four part₀ j₀ part j = Filled (λ j. setOf 16 (λ i. has four (16 * j + i))) part₀ part j
+module _ (four : ℕ) (part : List ℕ) (few : length part ≤ 4) (all : 4 ≤ length part) where
+  abbrev mask : ℕ → ℕ
+  mask j = setOf 16 (λ i. has four (16 * j + i))
 
-abbrev μ-loop : tie.MeasureT-loop
-μ-loop four part₀ j₀ part j = length part - j
+  first : four % 65536 ≡ mask 0
+  first = let e : four % 65536 ≡ four / 1 % 65536 = omega arith in e ∙ quarter four 0
+
+  one : Filled mask part (set part 0 (four % 65536)) 1
+  one = one-filled mask part part 0 (none-filled mask part) _ (omega arith) first
+
+  two : Filled mask part (set (set part 0 (four % 65536)) 1 (four / 2 ^ 16 % 65536)) 2
+  two = one-filled mask part _ 1 one _ (omega (arith, one .kept)) (quarter four 1)
+
+  three : Filled mask part (set (set (set part 0 (four % 65536)) 1 (four / 2 ^ 16 % 65536)) 2 (four / 2 ^ 32 % 65536)) 3
+  three = one-filled mask part _ 2 two _ (omega (arith, two .kept)) (quarter four 2)
+
+  last : Filled mask part (set (set (set (set part 0 (four % 65536)) 1 (four / 2 ^ 16 % 65536)) 2 (four / 2 ^ 32 % 65536)) 3 (four / 2 ^ 48 % 65536)) 4
+  last = one-filled mask part _ 3 three _ (omega (arith, three .kept)) (quarter four 3)
+
+  stored : set (set (set (set part 0 (four % 65536)) 1 (four / 2 ^ 16 % 65536)) 2 (four / 2 ^ 32 % 65536)) 3 (four / 2 ^ 48 % 65536)
+      ≡ tabulate (length part) mask
+  stored = all-filled mask part _ 4 last (omega (arith, last .kept))
 
 pub put-four-spec : {M : Type 1} → statement M
 put-four-spec =
     tie.close
     (tie.spec
-    Inv-loop
-    μ-loop
-    (λ c. none-filled _ _)
+    (λ c κs. c .before .before .before .pre)
     (λ c. omega arith)
+    (λ c. omega (arith, c .if1 .left))
     (λ c. omega arith)
+    (λ c. simp length-set (omega (arith, c .if1 .left)))
     (λ c. omega arith)
+    (λ c. simp length-set (omega (arith, c .if1 .left)))
     (λ c. omega arith)
-    (λ c. omega arith)
-    (λ c. omega arith)
-    (λ c. simp length-set (omega arith))
-    (λ c. one-filled _ _ _ _ (c .before .loop .inv) _ (c .loop-test .taken) (quarter _ _))
-    (λ c. c .before .loop .inv .kept)
-    (λ c. all-filled _ _ _ _ (c .before .loop .inv) (c .loop-test .left)))
+    (λ c. simp length-set (omega (arith, c .if1 .left)))
+    (λ c. c .before .part .given)
+    (λ c. c .before .before .put-some .ensures)
+    (λ c. let a = c .before .before .args in last (a .four) (a .part .now) (c .before .before .pre) (c .if1 .left) .kept)
+    (λ c. let a = c .before .before .args in stored (a .four) (a .part .now) (c .before .before .pre) (c .if1 .left)))
