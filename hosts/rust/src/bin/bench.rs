@@ -21,7 +21,7 @@ use codremif_host::random::Random;
 /// Runs go on until this time is spent, at least `FEWEST_RUNS` and at most `MOST_RUNS`.
 const TIME_FOR_RUNS: Duration = Duration::from_millis(60);
 const FEWEST_RUNS: usize = 3;
-const MOST_RUNS: usize = 25;
+const MOST_RUNS: usize = 201;
 
 /// Enough for the trace and for every list: no list of sets without a part of another has more than 12,870 of them.
 const LENT: usize = 2 * 12_870;
@@ -31,6 +31,7 @@ fn main() {
     if let Some(folder) = &folder {
         table("Sample models", sample_models(Path::new(folder)));
     }
+    table("Smallest models", (1..=4).flat_map(|bits| (1..=3).map(move |rules| growing(bits, rules))).collect());
     table("Largest models: 7 bits, 16 rules", largest_models());
     table("Growing N, 16 rules", (1..=7).map(|bits| growing(bits, 16)).collect());
     table("Growing R, 7 bits", (1..=16).map(|rules| growing(7, rules)).collect());
@@ -176,7 +177,7 @@ impl<T> std::fmt::Display for Timed<T> {
     fn fmt(&self, out: &mut std::fmt::Formatter) -> std::fmt::Result {
         let milliseconds = |time: Duration| time.as_secs_f64() * 1000.0;
         let (library, plain) = (milliseconds(self.library), milliseconds(self.plain));
-        write!(out, " {library:>9.3} {plain:>9.3} {:>7.2}", plain / library)
+        write!(out, " {library:>9.4} {plain:>9.4} {:>7.2}", plain / library)
     }
 }
 
