@@ -1,23 +1,17 @@
--- The arrays that the calls lend to the parts of a judgement: they have room for the models they are meant for.
--- From the laws of repeated lists, over any length, so that no list of zeros is written out. Assumes nothing.
+-- The tables that the list calls lend to the search: they have room for the sets of the rules they are meant for.
+-- From the laws of repeated lists. Assumes nothing.
 use Prim.Native.Nat.{ℕ, _+_, _*_, _/_, _^_, _≤_, _<_}
 use mathlib.Core.Path.{_≡_}
 use mathlib.Core.Bool.{true, false}
 use native.Mathlib.Omega.{arith}
-use lib.ListN.{length, take, replicate, length-replicate}
+use lib.ListN.{length, take, replicate}
 use lib.Pow.{pow-mono}
 use lib.Seq.{length-take-le}
 use Rattle.sets.specs.Bit.{has, full, has-full, has-zero}
 use Rattle.sets.specs.Cores.{false-if}
+use Rattle.systems.specs.Tables.{repeats}
 
-pub repeats : (n word : ℕ) → length {A = ℕ} (replicate n word) ≡ n
-repeats n word = length-replicate {A = ℕ} n word
-
--- so many entries are enough for the masks of models of at most so many letters
-pub masks-room : (n most : ℕ) {vars : ℕ} → 128 * 2 ^ most ≤ n → vars ≤ most → 128 * 2 ^ vars ≤ length {A = ℕ} (replicate n 0)
-masks-room n most enough few = omega (arith, pow-mono few, repeats n 0)
-
--- and for the sets of at most so many rules
+-- so many entries are enough for the sets of at most so many rules
 pub sets-room : (n most : ℕ) {rules : ℕ} → 2 ^ most ≤ n → rules ≤ most → 2 ^ rules ≤ length {A = ℕ} (replicate n 0)
 sets-room n most enough few = omega (arith, pow-mono few, repeats n 0)
 

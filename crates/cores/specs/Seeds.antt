@@ -11,10 +11,10 @@ use native.Mathlib.Decide.{ℕ-discrete}
 use borrow.Author.Tests.{eqb-true, eq-eqb}
 use lib.Dec.{eqb}
 use lib.ListN.{length}
-use lib.Pow.{pow-pos, lt-of-le-ones}
+use lib.Pow.{pow-pos}
 use Rattle.sets.specs.Choice.{alike}
-use Rattle.sets.specs.Bit.{has, full, has-le, has-full, has-below, has-rest}
-use Rattle.sets.specs.Sets.{_⊑_, ProperPart, part, part-iff, with, part-refl, part-trans, part-le, part-rest, has-with, has-without, proper-lt, proper-without}
+use Rattle.sets.specs.Bit.{has, full, has-below, has-rest}
+use Rattle.sets.specs.Sets.{_⊑_, ProperPart, part, part-iff, with, part-refl, part-trans, part-le, part-rest, has-with, with-above, with-below, has-without, proper-lt, proper-without}
 use Rattle.sets.specs.Cores.{Core, Cut, Monotone, isCore, isCut, isCore-iff, isCut-iff, false-if}
 use Rattle.sets.specs.Neighbours.{holds-above, broken-below}
 use Rattle.systems.specs.Verdict.{holds}
@@ -57,7 +57,7 @@ pub record Grown (R : ℕ) (h : ℕ → Bool) (S i T : ℕ) : Type 0 where
   pub below : T < 2 ^ R
   pub most : (j : ℕ) → j < i → has T j ≡ false → h (with T j) ≡ true
 
--- The same of tables that have room for the sets of R rules.
+-- What is known, by tables that have room for the sets of R rules.
 pub record Going (R : ℕ) (h : ℕ → Bool) (unknown cores cuts : List ℕ) : Type 0 where
   pub few : R ≤ 16
   pub roomUnknown : 2 ^ R ≤ 64 * length unknown
@@ -91,16 +91,6 @@ module _ (R : ℕ) (h : ℕ → Bool) (S : ℕ) where
   pub ungrown : h S ≡ false → S < 2 ^ R → Grown R h S 0 S
   ungrown e l = record { broken = e; above = part-refl S; below = l; most = λ j b. absurd (omega arith) }
 
-  pub with-above : (T i : ℕ) → T ⊑ with T i
-  with-above T i = record { every = λ j m. has-with T i j .1 (inl m) }
-
-  pub with-below : (T i : ℕ) → T < 2 ^ R → i < R → with T i < 2 ^ R
-  with-below T i l b = lt-of-le-ones R (has-le (with T i) (full R) (λ j m. has-full R j .1 (rule j (has-with T i j .0 m))))
-    where
-      rule : (j : ℕ) → (has T j ≡ true) ⊎ (j ≡ i) → j < R
-      rule j (inl m) = has-below R T j l m
-      rule j (inr e) = omega arith
-
   module _ (mono : Monotone R h) (i : ℕ) (b : i < R) {T : ℕ} (g : Grown R h S i T) where
     -- rule i is added, and the set stays broken
     pub grown-more : {U : ℕ} → U ≡ with T i → h (with T i) ≡ false → Grown R h S (i + 1) U
@@ -109,10 +99,10 @@ module _ (R : ℕ) (h : ℕ → Bool) (S : ℕ) where
         (record {
           broken = broken;
           above = part-trans (g .above) (with-above T i);
-          below = with-below T i (g .below) b;
+          below = with-below R T i (g .below) b;
           most = λ j l n.
               mono .more (with T j) (with (with T i) j)
-              (with-below (with T i) j (with-below T i (g .below) b) (omega arith))
+              (with-below R (with T i) j (with-below R T i (g .below) b) (omega arith))
               (record { every = λ k m. has-with (with T i) j k .1 (⊎-elim (λ x. inl (has-with T i k .1 (inl x))) inr (has-with T j k .0 m)) })
               (g .most j (other j l n) (lacks j n));
         })

@@ -10,7 +10,7 @@ use native.Mathlib.Nat.{mod-lt}
 use lib.Dec.{eqb}
 use lib.Bits.{bitAnd, bitOr, and-le-r}
 use lib.Count.{ones}
-use lib.Pow.{pow-pos}
+use lib.Pow.{pow-pos, lt-of-le-ones}
 use borrow.Author.Tests.{eqb-true, eq-eqb}
 use Rattle.sets.specs.Choice.{alike}
 use Rattle.sets.specs.Bit.{has, full, has-low, has-high, has-and, has-or, has-minus, has-le, has-some, has-below, has-zero, has-full, has-rest, has-one}
@@ -132,6 +132,17 @@ has-with S i j = (
   λ e. ⊎-elim inl (λ one. inr (has-one i j .0 one)) (has-or S (2 ^ i) j .0 e),
   λ p. has-or S (2 ^ i) j .1 (⊎-elim inl (λ same. inr (has-one i j .1 same)) p),
 )
+
+-- A set is a part of what it is with one rule more, and stays a set of R rules by one of them.
+pub with-above : (S i : ℕ) → S ⊑ with S i
+with-above S i = record { every = λ j m. has-with S i j .1 (inl m) }
+
+pub with-below : (R S i : ℕ) → S < 2 ^ R → i < R → with S i < 2 ^ R
+with-below R S i l b = lt-of-le-ones R (has-le (with S i) (full R) (λ j m. has-full R j .1 (rule j (has-with S i j .0 m))))
+  where
+    rule : (j : ℕ) → (has S j ≡ true) ⊎ (j ≡ i) → j < R
+    rule j (inl m) = has-below R S j l m
+    rule j (inr e) = omega arith
 
 pub without-part : (S i : ℕ) → without S i ⊑ S
 without-part S i = record { every = λ j e. has-without S i j .0 e .0 }

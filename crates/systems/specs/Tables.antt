@@ -10,7 +10,7 @@ use mathlib.Core.Option.{Option, none, some}
 use native.Mathlib.Omega.{arith}
 use borrow.Author.Tests.{lt-ltb}
 use lib.Dec.{eqb, ltb}
-use lib.ListN.{length, getD, drop}
+use lib.ListN.{length, getD, drop, replicate, length-replicate}
 use lib.Bits.{bitAnd}
 use lib.Pow.{pow-mono}
 use Rattle.sets.specs.Choice.{alike}
@@ -109,6 +109,14 @@ module _ (text : List ℕ) (m : Model) (s t : ℕ) where
       (λ e. step-iff text m S s t .1 (λ i _ b. has-mask i .0 (part-iff S (maskOf text m s t) .0 e .every i b) .1))
 
 -- ---- a table of pairs
+
+-- A repeated array has so many entries: over any number, so that no list is written out.
+pub repeats : (n word : ℕ) → length {A = ℕ} (replicate n word) ≡ n
+repeats n word = length-replicate {A = ℕ} n word
+
+-- So many entries are enough for the masks of models of at most so many letters.
+pub masks-room : (n most : ℕ) {vars : ℕ} → 128 * 2 ^ most ≤ n → vars ≤ most → 128 * 2 ^ vars ≤ length {A = ℕ} (replicate n 0)
+masks-room n most enough few = omega (arith, pow-mono few, repeats n 0)
 
 module _ (before : List ℕ) (rows n : ℕ) (f : ℕ → ℕ → ℕ) where
   pub length-pairs : length (pairsOf before rows n f) ≡ length before

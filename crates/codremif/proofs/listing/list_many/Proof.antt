@@ -5,9 +5,10 @@ use mathlib.Core.Path.{sym}
 use mathlib.Core.Bool.{true, false}
 use native.Mathlib.Omega.{arith}
 use Rattle.sets.specs.Bit.{full}
+use Rattle.systems.specs.Tables.{repeats}
 use Rattle.cores.specs.Tables.{repeated}
 use Rattle.codremif.specs.AnswerLaws.{rules-le}
-use Rattle.codremif.proofs.Room.{repeats, sets-room, all-set, none-set, words-fit, words-long}
+use Rattle.codremif.proofs.Room.{sets-room, all-set, none-set, words-fit, words-long}
 use Rattle.codremif.proofs.listing.list_many.Statement.{statement}
 use Rattle.codremif.proofs.listing.list_many.Tie as tie
 

@@ -1,7 +1,7 @@
 -- `codremif::must::must_in` meets its contract: either array has room for the masks. Assumes nothing.
 use native.Mathlib.Omega.{arith}
+use Rattle.systems.specs.Tables.{repeats, masks-room}
 use Rattle.codremif.specs.AnswerLaws.{vars-le}
-use Rattle.codremif.proofs.Room.{repeats, masks-room}
 use Rattle.codremif.proofs.must.must_in.Statement.{statement}
 use Rattle.codremif.proofs.must.must_in.Tie as tie
 

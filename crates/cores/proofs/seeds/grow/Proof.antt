@@ -7,10 +7,10 @@ use mathlib.Core.Bool.{Bool, true, false, not, _&&_, and-eq-true-iff, true≢fal
 use native.Mathlib.Omega.{arith}
 use borrow.Author.Tests.{not-true, not-false}
 use Rattle.sets.specs.Bit.{has}
-use Rattle.sets.specs.Sets.{with, part-trans}
+use Rattle.sets.specs.Sets.{with, with-above, with-below, part-trans}
 use Rattle.sets.specs.Cores.{Monotone}
 use Rattle.cores.specs.Tables.{marked}
-use Rattle.cores.specs.Seeds.{judgedBy, Growable, Grown, ungrown, with-above, with-below, grown-more, grown-same}
+use Rattle.cores.specs.Seeds.{judgedBy, Growable, Grown, ungrown, grown-more, grown-same}
 use Rattle.cores.proofs.seeds.grow.Statement.{statement}
 use Rattle.cores.proofs.seeds.grow.Tie as tie
 
@@ -20,7 +20,7 @@ record Growing (R : ℕ) (h unknown : ℕ → Bool) (S i T : ℕ) : Type 0 where
 
 module _ (R : ℕ) (h unknown : ℕ → Bool) (mono : Monotone R h) (S : ℕ) (able : Growable R h unknown S) (i : ℕ) (l : i < R) {T : ℕ} (g : Growing R h unknown S i T) where
   small : with T i < 2 ^ R
-  small = with-below R h S T i (g .grown .below) l
+  small = with-below R T i (g .grown .below) l
 
   -- what the test says: a rule that the set lacks, and with it a set that is not known and broken
   abbrev test : Bool
@@ -37,7 +37,7 @@ module _ (R : ℕ) (h unknown : ℕ → Bool) (mono : Monotone R h) (S : ℕ) (a
     where
       held : has T i ≡ false → (u v : Bool) → unknown (with T i) ≡ u → h (with T i) ≡ v → h (with T i) ≡ true
       held n u true x y = y
-      held n false false x y = able .known (with T i) small (part-trans (g .grown .above) (with-above R h S T i)) x
+      held n false false x y = able .known (with T i) small (part-trans (g .grown .above) (with-above T i)) x
       held n true false x y =
           let t : test ≡ true = rw (n, x, y) in
           absurd (true≢false (sym t ∙ sym said ∙ f))
