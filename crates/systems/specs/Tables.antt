@@ -32,10 +32,14 @@ use Rattle.systems.specs.Tabulated.{tabulate, length-tabulate, getD-tabu
 unfoldable pub marksOf : ℕ → (ℕ → Bool) → List Bool
 marksOf n p = tabulate 128 (λ s. ltb s n && p s)
 
--- The mask of a pair of states: the set of the rules that the pair meets.
+-- The mask of a pair of states: the set of the rules that the pair meets. Rule i stands at the place `steps` i of the text.
+unfoldable pub maskBy : (text steps : List ℕ) (rules : ℕ) → ℕ → ℕ → ℕ
+unfolding setOf
+maskBy text steps rules s t = setOf rules (λ i. meets text (getD steps i 0) s t)
+
 unfoldable pub maskOf : List ℕ → Model → ℕ → ℕ → ℕ
-unfolding setOf ruleMet
-maskOf text m s t = setOf (m .rules) (λ i. ruleMet text m i s t)
+unfolding maskBy
+maskOf text m = maskBy text (m .steps) (m .rules)
 
 -- A table of pairs over what was there before: f s t at 128 * s + t for s below `rows` and t below n. Entries that belong to no pair stay as
 -- they were.
@@ -82,12 +86,12 @@ module _ (n : ℕ) (p : ℕ → Bool) where
 
 module _ (text : List ℕ) (m : Model) (s t : ℕ) where
   pub mask-lt : maskOf text m s t < 2 ^ m .rules
-  unfolding maskOf
+  unfolding maskOf maskBy ruleMet
   mask-lt = setOf-lt (m .rules) (λ i. ruleMet text m i s t)
 
   -- The mask has the rules that the pair meets.
   pub has-mask : (i : ℕ) → (has (maskOf text m s t) i ≡ true) ↔ ((i < m .rules) × (ruleMet text m i s t ≡ true))
-  unfolding maskOf
+  unfolding maskOf maskBy ruleMet
   has-mask i = (
     λ e. let h = has-below (m .rules) (maskOf text m s t) i mask-lt e in (h, sym (at h) ∙ e),
     λ h. at (h .0) ∙ h .1,

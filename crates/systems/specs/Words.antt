@@ -16,10 +16,9 @@ use Rattle.exprs.specs.declared.words.Worded.the-variants.{Word, NoWord}
 use Rattle.exprs.specs.Expr.{Expr}
 use Rattle.exprs.specs.Reading.{readExpr}
 use Rattle.exprs.specs.Answers.{wordsIn, wordsOf}
-use Rattle.models.specs.declared.model.Model.{Model}
-use Rattle.systems.specs.Meaning.{meets, valueRead, ruleMet}
+use Rattle.systems.specs.Meaning.{meets, valueRead}
 use Rattle.systems.specs.Tabulated.{tabulate, length-tabulate, getD-tabulate, all-alike, one-stored, below-next}
-use Rattle.systems.specs.Tables.{maskOf}
+use Rattle.systems.specs.Tables.{maskBy}
 
 -- The expression at a place of the text at the state now and the next states 64 * block and the 63 after it.
 unfoldable pub wordAt : List ℕ → ℕ → ℕ → ℕ → ℕ
@@ -27,9 +26,9 @@ unfolding setOf
 wordAt text place s block = setOf 64 (λ t. meets text place s (64 * block + t))
 
 -- The words of the first n rules; 16 entries, 0 from n on.
-unfoldable pub wordTable : List ℕ → Model → ℕ → ℕ → ℕ → List ℕ
+unfoldable pub wordTable : (text steps : List ℕ) → ℕ → ℕ → ℕ → List ℕ
 unfolding wordAt
-wordTable text m s block n = tabulate 16 (λ i. cond (ltb i n) (wordAt text (getD (m .steps) i 0) s block) 0)
+wordTable text steps s block n = tabulate 16 (λ i. cond (ltb i n) (wordAt text (getD steps i 0) s block) 0)
 
 -- ---- an answer of `exprs::words::words`
 
@@ -48,30 +47,30 @@ words-meet text at now block = go (readExpr (drop at text))
 
 -- ---- the laws
 
-module _ (text : List ℕ) (m : Model) (s block : ℕ) where
-  pub length-words : (n : ℕ) → length (wordTable text m s block n) ≡ 16
+module _ (text steps : List ℕ) (s block : ℕ) where
+  pub length-words : (n : ℕ) → length (wordTable text steps s block n) ≡ 16
   unfolding wordTable
-  length-words n = length-tabulate 16 (λ i. cond (ltb i n) (wordAt text (getD (m .steps) i 0) s block) 0)
+  length-words n = length-tabulate 16 (λ i. cond (ltb i n) (wordAt text (getD steps i 0) s block) 0)
 
-  pub no-words : replicate 16 0 ≡ wordTable text m s block 0
+  pub no-words : replicate 16 0 ≡ wordTable text steps s block 0
   unfolding wordTable
-  no-words = all-alike 16 0 (λ i. cond (ltb i 0) (wordAt text (getD (m .steps) i 0) s block) 0) (λ i _. rw (le-ltb i 0 (omega arith)))
+  no-words = all-alike 16 0 (λ i. cond (ltb i 0) (wordAt text (getD steps i 0) s block) 0) (λ i _. rw (le-ltb i 0 (omega arith)))
 
-  pub one-word : (i : ℕ) → i < 16 → set (wordTable text m s block i) i (wordAt text (getD (m .steps) i 0) s block) ≡ wordTable text m s block (i + 1)
+  pub one-word : (i : ℕ) → i < 16 → set (wordTable text steps s block i) i (wordAt text (getD steps i 0) s block) ≡ wordTable text steps s block (i + 1)
   unfolding wordTable
   one-word i h =
-      ap (set (wordTable text m s block i) i) (rw (lt-ltb i (i + 1) (omega arith)))
-      ∙ one-stored 16 (λ j. cond (ltb j i) (wordAt text (getD (m .steps) j 0) s block) 0)
-      (λ j. cond (ltb j (i + 1)) (wordAt text (getD (m .steps) j 0) s block) 0) i h
-      (λ j n. ap (λ b. cond b (wordAt text (getD (m .steps) j 0) s block) 0) (below-next j i n))
+      ap (set (wordTable text steps s block i) i) (rw (lt-ltb i (i + 1) (omega arith)))
+      ∙ one-stored 16 (λ j. cond (ltb j i) (wordAt text (getD steps j 0) s block) 0)
+      (λ j. cond (ltb j (i + 1)) (wordAt text (getD steps j 0) s block) 0) i h
+      (λ j n. ap (λ b. cond b (wordAt text (getD steps j 0) s block) 0) (below-next j i n))
 
   -- Bit t of each word.
-  pub words-mask : (t : ℕ) → t < 64 → m .rules ≤ 16
-      → setOf (m .rules) (λ i. has (getD (wordTable text m s block (m .rules)) i 0) t) ≡ maskOf text m s (64 * block + t)
-  unfolding maskOf ruleMet wordTable wordAt
-  words-mask t h few =
-      setOf-same (m .rules) _ _
+  pub words-mask : (rules t : ℕ) → t < 64 → rules ≤ 16
+      → setOf rules (λ i. has (getD (wordTable text steps s block rules) i 0) t) ≡ maskBy text steps rules s (64 * block + t)
+  unfolding maskBy wordTable wordAt
+  words-mask rules t h few =
+      setOf-same rules _ _
       (λ i l.
       ap (λ (w : ℕ). has w t)
-      (getD-tabulate 16 (λ i. cond (ltb i (m .rules)) (wordAt text (getD (m .steps) i 0) s block) 0) 0 i (omega arith) ∙ rw (lt-ltb i (m .rules) l))
-      ∙ has-setOf 64 (λ t. meets text (getD (m .steps) i 0) s (64 * block + t)) t h)
+      (getD-tabulate 16 (λ i. cond (ltb i rules) (wordAt text (getD steps i 0) s block) 0) 0 i (omega arith) ∙ rw (lt-ltb i rules l))
+      ∙ has-setOf 64 (λ t. meets text (getD steps i 0) s (64 * block + t)) t h)

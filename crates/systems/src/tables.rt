@@ -8,7 +8,7 @@ ghost use Rattle.sets.specs.Bit.{has};
 ghost use Rattle.sets.specs.Gathered.{setOf};
 ghost use Rattle.systems.specs.Meaning.{meets, startOf, badOf};
 ghost use Rattle.systems.specs.Tabulated.{tabulate};
-ghost use Rattle.systems.specs.Tables.{marksOf, maskOf, masksOf};
+ghost use Rattle.systems.specs.Tables.{marksOf, maskBy, masksOf};
 ghost use Rattle.systems.specs.Words.{wordAt, wordTable};
 use exprs::value::Valued;
 use exprs::words::Worded;
@@ -74,16 +74,15 @@ fn word_of(text: &[u8], place: usize, s: usize, block: usize) -> u64
     }
 }
 
-// The words of all rules.
-fn rule_words(text: &[u8], m: Model, s: usize, block: usize) -> [u64; 16]
-    requires { ⌜ m .rules ≤ 16 ⌝ }
-    ensures { λ r. ⌜ r ≡ wordTable (now (text .entry)) m s block (m .rules) ⌝ }
+// The words of all rules, which stand at the places `steps` of the text. These are lent: the model by value would be copied for each row.
+fn rule_words(text: &[u8], steps: &[usize; 16], rules: usize, s: usize, block: usize) -> [u64; 16]
+    requires { ⌜ (length (now steps) ≡ 16) × (rules ≤ 16) ⌝ }
+    ensures { λ r. ⌜ r ≡ wordTable (now (text .entry)) (now (steps .entry)) s block rules ⌝ }
 {
-    let rules = m.rules;
     let mut words = [0u64; 16];
     let mut i = 0;
     while i < rules {
-        words[i] = word_of(text, m.steps[i], s, block);
+        words[i] = word_of(text, steps[i], s, block);
         i += 1;
     }
     words
@@ -152,14 +151,20 @@ fn four_on(t: usize, end: usize) -> usize
 }
 
 // The masks of the pairs of s with the states from 64 * block on, as many as the part has entries.
-fn fill_block(text: &[u8], m: Model, s: usize, block: usize, part: &mut [u16])
-    requires { ⌜ m .rules ≤ 16 ⌝ }
+fn fill_block(
+    text: &[u8],
+    steps: &[usize; 16],
+    rules: usize,
+    s: usize,
+    block: usize,
+    part: &mut [u16],
+)
+    requires { ⌜ (length (now steps) ≡ 16) × (rules ≤ 16) ⌝ }
     requires { ⌜ length (now part) ≤ 64 ⌝ }
     ensures { λ _.
-        ⌜ now (part .exit) ≡ tabulate (length (now (part .entry))) (λ t. maskOf (now (text .entry)) m s (64 * block + t)) ⌝ }
+        ⌜ now (part .exit) ≡ tabulate (length (now (part .entry))) (λ t. maskBy (now (text .entry)) (now (steps .entry)) rules s (64 * block + t)) ⌝ }
 {
-    let rules = m.rules;
-    let words = rule_words(text, m, s, block);
+    let words = rule_words(text, steps, rules, s, block);
     let mut t = 0;
     while t < part.len() {
         let four = four_masks(&words, rules, t);
@@ -170,17 +175,17 @@ fn fill_block(text: &[u8], m: Model, s: usize, block: usize, part: &mut [u16])
 }
 
 // The masks of the pairs of s with the states from 0 on, as many as the row has entries.
-fn fill_row(text: &[u8], m: Model, s: usize, row: &mut [u16])
-    requires { ⌜ m .rules ≤ 16 ⌝ }
+fn fill_row(text: &[u8], steps: &[usize; 16], rules: usize, s: usize, row: &mut [u16])
+    requires { ⌜ (length (now steps) ≡ 16) × (rules ≤ 16) ⌝ }
     requires { ⌜ length (now row) ≤ 128 ⌝ }
     ensures { λ _.
-        ⌜ now (row .exit) ≡ tabulate (length (now (row .entry))) (maskOf (now (text .entry)) m s) ⌝ }
+        ⌜ now (row .exit) ≡ tabulate (length (now (row .entry))) (maskBy (now (text .entry)) (now (steps .entry)) rules s) ⌝ }
 {
     if row.len() <= 64 {
-        fill_block(text, m, s, 0, row);
+        fill_block(text, steps, rules, s, 0, row);
     } else {
-        fill_block(text, m, s, 0, &mut row[..64]);
-        fill_block(text, m, s, 1, &mut row[64..]);
+        fill_block(text, steps, rules, s, 0, &mut row[..64]);
+        fill_block(text, steps, rules, s, 1, &mut row[64..]);
     }
 }
 
@@ -192,11 +197,13 @@ pub fn fill_masks(text: &[u8], m: Model, masks: &mut [u16])
     ensures { λ _. ⌜ now (masks .exit) ≡ masksOf (now (masks .entry)) (now (text .entry)) m ⌝ }
 {
     let states = state_count(m.vars);
+    let steps = m.steps;
+    let rules = m.rules;
     let mut s = 0;
     while s < states {
         let from = 128 * s;
         let to = from + states;
-        fill_row(text, m, s, &mut masks[from..to]);
+        fill_row(text, &steps, rules, s, &mut masks[from..to]);
         s += 1;
     }
 }

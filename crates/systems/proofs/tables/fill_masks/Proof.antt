@@ -10,7 +10,7 @@ use lib.ListN.{length, take, drop, length-take, length-drop}
 use lib.Pow.{pow-mono}
 use Rattle.systems.specs.Tabled.{Fits}
 use Rattle.systems.specs.Tabulated.{tabulate}
-use Rattle.systems.specs.Tables.{maskOf, pairsOf, masksOf, length-pairs}
+use Rattle.systems.specs.Tables.{maskBy, maskOf, pairsOf, masksOf, length-pairs}
 use Rattle.systems.proofs.Filling.{no-pairs, one-row}
 use Rattle.systems.proofs.tables.fill_masks.Statement.{statement}
 use Rattle.systems.proofs.tables.fill_masks.Tie as tie
@@ -50,13 +50,13 @@ module _ (f : ℕ → ℕ → ℕ) (states : ℕ) (before masks : List ℕ) (s :
   full l = let end : s ≡ states = omega (arith, h .within) in h .entries ∙ ap (λ (rows : ℕ). pairsOf before rows states f) end
 
 abbrev Inv-loop : tie.InvT-loop
-Inv-loop text m masks₀ states s₀ masks s = Filled (maskOf text m) states masks₀ masks s
+Inv-loop text masks₀ states steps rules s₀ masks s = Filled (maskBy text steps rules) states masks₀ masks s
 
 abbrev μ-loop : tie.MeasureT-loop
-μ-loop text m masks₀ states s₀ masks s = states - s
+μ-loop text masks₀ states steps rules s₀ masks s = states - s
 
 pub fill-masks-spec : {M : Type 1} → statement M
-unfolding masksOf
+unfolding masksOf maskOf
 fill-masks-spec =
     tie.close
     (tie.spec
@@ -64,20 +64,20 @@ fill-masks-spec =
     μ-loop
     (λ c κs. search needs)
     (λ c.
-    let p = c .before .before .before .pre in
-    none _ _ _ (omega (arith, c .state-count .ensures, pow-mono (p .0 .0))) (omega (arith, c .state-count .ensures, p .1)))
+    let p = c .before .before .before .before .pre in
+    none _ _ _ (omega (arith, c .before .state-count .ensures, pow-mono (p .0 .0))) (omega (arith, c .before .state-count .ensures, p .1)))
+    (λ c. omega (arith, c .loop-test .taken, c .before .loop .inv .fits .few))
+    (λ c. omega (arith, c .loop-test .taken, c .before .loop .inv .fits .few))
+    (λ c. omega (arith, c .before .loop-test .taken, c .before .before .loop .inv .fits .few))
     (λ c. omega arith)
     (λ c. omega arith)
-    (λ c. omega arith)
-    (λ c. omega arith)
-    (λ c. omega arith)
-    (λ c. omega (arith, room _ _ _ _ _ (c .before .loop .inv) (c .loop-test .taken)))
-    (λ c κs. (c .before .before .before .before .before .before .pre .0 .1, row-few _ _ _ _ _ (c .before .before .loop .inv)))
-    (λ c. omega arith)
-    (λ c. omega arith)
-    (λ c. one-more _ _ _ _ _ (c .before .before .before .before .before .loop .inv) _ (c .before .before .before .before .loop-test .taken) (c .before .before .fill-row .ensures))
+    (λ c. omega (arith, room _ _ _ _ _ (c .before .before .loop .inv) (c .before .loop-test .taken)))
+    (λ c κs. ((search needs, c .before .before .before .before .before .before .before .before .pre .0 .1), row-few _ _ _ _ _ (c .before .before .before .loop .inv)))
+    (λ c. omega (arith, c .before .before .before .before .before .loop-test .taken, c .before .before .before .before .before .before .loop .inv .fits .few))
+    (λ c. omega (arith, c .before .before .before .before .before .loop-test .taken))
+    (λ c. one-more _ _ _ _ _ (c .before .before .before .before .before .before .loop .inv) _ (c .before .before .before .before .before .loop-test .taken) (c .before .before .fill-row .ensures))
     (λ c. size _ _ _ _ _ (c .before .loop .inv))
     (λ c.
-    let a = c .before .before .before .before .before .args in
+    let a = c .before .before .before .before .before .before .args in
     full _ _ _ _ _ (c .before .loop .inv) (c .loop-test .left)
-    ∙ ap (λ (n : ℕ). pairsOf (a .masks .now) n n (maskOf (a .text .now) (a .m))) (c .before .before .state-count .ensures)))
+    ∙ ap (λ (n : ℕ). pairsOf (a .masks .now) n n (maskBy (a .text .now) (a .m .steps) (a .m .rules))) (c .before .before .before .state-count .ensures)))

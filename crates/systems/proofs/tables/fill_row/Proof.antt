@@ -8,7 +8,7 @@ use borrow.Rule.Slice.PartMut.{midOf, putMid}
 use lib.ListN.{length, take, drop, length-append, length-take, length-drop, drop-of-length-le}
 use lib.Seq.{length-take-le, take-at, drop-at}
 use Rattle.systems.specs.Tabulated.{tabulate, length-tabulate, same-entries, in-parts}
-use Rattle.systems.specs.Tables.{maskOf}
+use Rattle.systems.specs.Tables.{maskBy}
 use Rattle.systems.proofs.tables.fill_row.Statement.{statement}
 use Rattle.systems.proofs.tables.fill_row.Tie as tie
 
@@ -44,7 +44,7 @@ pub fill-row-spec : {M : Type 1} → statement M
 fill-row-spec =
     tie.close
     (tie.spec
-    (λ c κs. search needs)
+    (λ c κs. (c .before .before .before .before .pre .0, omega (arith, c .before .if1 .taken)))
     (λ c. search needs)
     (λ c. sym (length-take-le 64 (c .before .before .before .before .args .row .now) (omega (arith, c .before .if1 .left))))
     (λ c κs. (c .before .before .before .before .pre .0, omega (arith, length-take 64 (c .before .before .before .before .args .row .now))))
@@ -58,4 +58,4 @@ fill-row-spec =
     (λ c.
     let a = c .before .before .before .before .before .before .before .before .before .before .before .args in
     let more : 64 < length (a .row .now) = omega (arith, c .before .before .before .before .before .before .before .before .if1 .left) in
-    two-blocks (maskOf (a .text .now) (a .m) (a .s)) (a .row .now) _ _ more (c .before .before .before .before .before .before .fill-block2 .ensures) (c .before .before .fill-block3 .ensures)))
+    two-blocks (maskBy (a .text .now) (a .steps .now) (a .rules) (a .s)) (a .row .now) _ _ more (c .before .before .before .before .before .before .fill-block2 .ensures) (c .before .before .fill-block3 .ensures)))

@@ -10,10 +10,10 @@ use Rattle.systems.proofs.tables.rule_words.Statement.{statement}
 use Rattle.systems.proofs.tables.rule_words.Tie as tie
 
 abbrev Inv-loop : tie.InvT-loop
-Inv-loop text s block m rules words₀ i₀ words i = (i ≤ rules) × (words ≡ wordTable text m s block i)
+Inv-loop text steps rules s block words₀ i₀ words i = (i ≤ rules) × (words ≡ wordTable text steps s block i)
 
 abbrev μ-loop : tie.MeasureT-loop
-μ-loop text s block m rules words₀ i₀ words i = rules - i
+μ-loop text steps rules s block words₀ i₀ words i = rules - i
 
 pub rule-words-spec : {M : Type 1} → statement M
 rule-words-spec =
@@ -22,17 +22,17 @@ rule-words-spec =
     Inv-loop
     μ-loop
     (λ c. (omega arith, no-words _ _ _ _))
-    (λ c. omega arith)
-    (λ c. search needs)
+    (λ c. omega (arith, c .before .before .before .pre .1))
+    (λ c. omega (arith, c .before .before .before .pre .0, c .before .before .before .pre .1))
     (λ c κs. search needs)
-    (λ c. omega arith)
-    (λ c. omega arith)
+    (λ c. omega (arith, c .before .before .before .before .before .pre .1))
+    (λ c. omega (arith, c .before .before .before .before .before .pre .1))
     (λ c. omega arith)
     (λ c. omega arith)
     (λ c.
     let l = c .before .before .before .loop in
-    (omega arith, ap₂ (λ words w. set words (l .i) w) (l .inv .1) (c .word-of .ensures) ∙ one-word _ _ _ _ (l .i) (omega arith)))
+    (omega arith, ap₂ (λ words w. set words (l .i) w) (l .inv .1) (c .word-of .ensures) ∙ one-word _ _ _ _ (l .i) (omega (arith, c .before .before .before .before .before .pre .1))))
     (λ c.
     let a = c .before .before .before .args in
-    let end : c .before .loop .i ≡ a .t2 .rules = omega arith in
-    c .before .loop .inv .1 ∙ ap (λ (n : ℕ). wordTable (a .text .now) (a .t2) (a .s) (a .block) n) end))
+    let end : c .before .loop .i ≡ a .rules = omega arith in
+    c .before .loop .inv .1 ∙ ap (λ (n : ℕ). wordTable (a .text .now) (a .steps .now) (a .s) (a .block) n) end))
