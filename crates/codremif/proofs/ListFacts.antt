@@ -14,7 +14,6 @@ use Rattle.sets.specs.Lists.{listOf, coresOf, cutsOf, mustOf, common}
 use Rattle.sets.specs.Growth.{listOf-agree, coresOf-agree}
 use Rattle.models.specs.declared.model.Model.{Model}
 use Rattle.models.specs.declared.model.Outcome.the-variants.{Refused}
-use Rattle.systems.specs.Verdict.{holds}
 use Rattle.systems.specs.Compare.{same-holds}
 use Rattle.systems.specs.Meaning.{startOf, badOf, judge, judge-monotone}
 use Rattle.systems.specs.Tables.{marksOf, masksOf}
@@ -25,7 +24,7 @@ use Rattle.cores.specs.Seeds.{judgedBy}
 use Rattle.codremif.specs.declared.answers.ListAnswer.the-variants.{Refused as ListRefused}
 use Rattle.codremif.specs.declared.answers.MustAnswer.the-variants.{Refused as MustRefused, Set}
 use Rattle.codremif.specs.Answers.{IsRead, textOutcome, coresIn, cutsIn, listIn, mustIn, listOutcome, listAnswer, listBytes, coresAnswer, coresBytes, cutsAnswer, cutsBytes, mustAnswer}
-use Rattle.codremif.specs.AnswerLaws.{vars-le, rules-le}
+use Rattle.codremif.specs.AnswerLaws.{vars-le}
 
 -- the judgement by the tables of a model, whose masks went over what was there before
 abbrev byTables : List ℕ → List ℕ → Model → ℕ → Bool

@@ -1,7 +1,7 @@
 -- A loop that clears marks word by word, the same bits in each word that it visits: the table before the first word, after one more, and at
 -- the end. From what storing one word does to the marks. Assumes nothing.
 use Prim.Native.Nat.{ℕ, _-_, _*_, _/_, _%_, _^_, _<_}
-use mathlib.Core.Path.{_≡_, refl, sym, ap, ap₂, _∙_}
+use mathlib.Core.Path.{_≡_, refl, sym, ap, _∙_}
 use mathlib.Core.Logic.{_≢_}
 use mathlib.Core.Bool.{Bool, true, false, cond, not, _&&_, and-true}
 use mathlib.Core.List.{List}
@@ -12,8 +12,7 @@ use lib.Bits.{bitAnd}
 use lib.Dec.{eqb}
 use lib.ListN.{length, getD, set, length-set}
 use Rattle.sets.specs.Bit.{has, full}
-use Rattle.sets.specs.Gathered.{setOf, has-setOf, and-has, rest-has}
-use Rattle.sets.specs.Sets.{part, part-split}
+use Rattle.sets.specs.Gathered.{and-has, rest-has}
 use Rattle.cores.specs.Tables.{marked, Changed, word-stored}
 
 -- the bits are cleared in the words whose places pass P
@@ -48,7 +47,7 @@ module _ (P Q : ℕ → Bool) (bits : ℕ) (before table : List ℕ) (c : Cleare
           rw (ne-eqb (S / 64) w n)
           (c .at S h ∙ ap (λ x. marked before S && not (x && has bits (S % 64))) (same (S / 64) n))
 
--- the words visited are told by the high rules, and the bits by the six low ones
+-- at the end: the words that were visited and the bits tell which sets are cleared
 module _ (q : ℕ → Bool) (P : ℕ → Bool) (bits : ℕ) (before after : List ℕ) (c : Cleared P bits before after) where
   pub all-cleared : ((S : ℕ) → S < 64 * length before → (P (S / 64) && has bits (S % 64)) ≡ q S) → Changed (λ S b. b && not (q S)) before after
   all-cleared told = record { size = c .size; at = λ S l. c .at S l ∙ ap (λ x. marked before S && not x) (told S l) }

@@ -1,21 +1,20 @@
 -- A word that keeps, place by place, the numbers below 64 that fail at no place: what one more place does to it.
 -- The numbers that never fail are those above a set, or those below it. From the sets gathered by tests, and the test that no place fails.
 use Prim.Native.Nat.{ℕ, _+_, _-_, _<_}
-use mathlib.Core.Path.{_≡_, refl, sym, ap, _∙_}
-use mathlib.Core.Bool.{Bool, true, false, not, _&&_, and-eq-true-iff, true≢false}
-use native.Mathlib.Omega.{arith}
+use mathlib.Core.Path.{_≡_, sym, _∙_}
+use mathlib.Core.Bool.{Bool, false, not, _&&_, and-comm, and-eq-true-iff, true≢false}
 use native.Mathlib.Numerals.{add-one}
 use borrow.Author.Tests.{not-true, not-false}
 use lib.Bits.{bitAnd}
 use Rattle.sets.specs.Choice.{alike}
 use Rattle.sets.specs.Bit.{has, has-below}
-use Rattle.sets.specs.Sets.{_⊑_, part, part-iff}
+use Rattle.sets.specs.Sets.{part, part-iff}
 use Rattle.sets.specs.Cores.{noneBelow, noneBelow-iff, false-if}
 use Rattle.sets.specs.Gathered.{setOf, setOf-lt, has-setOf, setOf-same, and-setOf}
 
--- t fails at place j: it lacks a rule of S; or it has a rule that S lacks
+-- T lacks rule j of S
 abbrev pub lacking : ℕ → ℕ → ℕ → Bool
-lacking S t j = has S j && not (has t j)
+lacking S T j = has S j && not (has T j)
 
 module _ (fails : ℕ → ℕ → Bool) (i : ℕ) {word : ℕ} (e : word ≡ setOf 64 (λ t. noneBelow (fails t) i)) where
   -- the numbers that fail at place i are taken out
@@ -25,20 +24,14 @@ module _ (fails : ℕ → ℕ → Bool) (i : ℕ) {word : ℕ} (e : word ≡ set
       rw (e, said, add-one)
       (and-setOf 64 (setOf 64 (λ t. noneBelow (fails t) i)) (setOf 64 (λ t. not (fails t i))) (setOf-lt 64 _) (setOf-lt 64 _)
       ∙ setOf-same 64 _ (λ t. not (fails t i) && noneBelow (fails t) i)
-      (λ t l. rw (has-setOf 64 (λ t. noneBelow (fails t) i) t l, has-setOf 64 (λ t. not (fails t i)) t l) (turned (noneBelow (fails t) i) (not (fails t i)))))
-    where
-      turned : (a b : Bool) → (a && b) ≡ (b && a)
-      turned true true = refl
-      turned true false = refl
-      turned false true = refl
-      turned false false = refl
+      (λ t l. rw (has-setOf 64 (λ t. noneBelow (fails t) i) t l, has-setOf 64 (λ t. not (fails t i)) t l) (and-comm (noneBelow (fails t) i) (not (fails t i)))))
 
   -- no number fails there
   pub passed : ((t : ℕ) → fails t i ≡ false) → word ≡ setOf 64 (λ t. noneBelow (fails t) (i + 1))
   unfolding noneBelow
   passed none = rw add-one (e ∙ setOf-same 64 _ _ (λ t l. rw (none t)))
 
--- S lacks none of the first six rules of T
+-- a number below 64 has no other rules than the first six
 all-passed : (S T : ℕ) → S < 64 → noneBelow (lacking S T) 6 ≡ part S T
 all-passed S T h =
     alike (noneBelow (lacking S T) 6) (part S T)

@@ -1,9 +1,9 @@
 -- The set of those of the first n numbers that pass a test: its number is below 2 ^ n, and it has exactly the numbers below n that pass.
 -- So the complement, the meet and so on of sets are gathered by the tests so combined. By induction on n. Assumes nothing.
-use Prim.Native.Nat.{ℕ, zero, suc, _+_, _-_, _*_, _/_, _%_, _^_, _<_}
+use Prim.Native.Nat.{ℕ, zero, suc, _+_, _-_, _*_, _%_, _^_, _<_}
 use mathlib.Core.Path.{_≡_, refl, sym, ap, _∙_}
 use mathlib.Core.Logic.{_⊎_, inl, inr}
-use mathlib.Core.Bool.{Bool, true, false, not, _&&_, _||_, Bool·beq, false≢true, and-eq-true-iff}
+use mathlib.Core.Bool.{Bool, true, false, not, _&&_, _||_, Bool·beq, Bool·not-not, false≢true, and-eq-true-iff}
 use native.Mathlib.Omega.{arith}
 use native.Mathlib.Nat.{pow-suc}
 use borrow.Author.Count.{below-more}
@@ -122,8 +122,4 @@ module _ (n S T : ℕ) (h : S < 2 ^ n) (k : T < 2 ^ n) where
   pub alike-setOf : full n - bitXor S T ≡ setOf n (λ i. Bool·beq (has S i) (has T i))
   alike-setOf =
       is-setOf n (full n - bitXor S T) (λ i. Bool·beq (has S i) (has T i)) (ones-sub-lt n (bitXor S T))
-      (λ i l. rest-has n (bitXor S T) (xor-lt n S T h k) i l ∙ ap not (has-xor S T i) ∙ not-not (Bool·beq (has S i) (has T i)))
-    where
-      not-not : (b : Bool) → not (not b) ≡ b
-      not-not true = refl
-      not-not false = refl
+      (λ i l. rest-has n (bitXor S T) (xor-lt n S T h k) i l ∙ ap not (has-xor S T i) ∙ Bool·not-not (Bool·beq (has S i) (has T i)))

@@ -8,7 +8,6 @@ use mathlib.Core.List.{List, [], _∷_, _++_, append-nil}
 use native.Mathlib.Omega.{arith}
 use native.Mathlib.Nat.{eq-or-lt-of-le, le-of-suc-le-suc}
 use native.Mathlib.Numerals.{add-one}
-use borrow.Author.Needs.{needs}
 use lib.ListN.{length, take, set, length-set}
 use lib.Pow.{pow-mono}
 use lib.Seq.{take-suc-set}

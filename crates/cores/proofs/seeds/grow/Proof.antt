@@ -1,11 +1,11 @@
 -- `cores::seeds::grow` meets its contract. The loop's invariant: what it has grown to is broken, and holds with any one of the first i rules
 -- that it lacks. Assumes nothing.
-use Prim.Native.Nat.{ℕ, _+_, _-_, _*_, _^_, _≤_, _<_}
+use Prim.Native.Nat.{ℕ, _+_, _-_, _^_, _≤_, _<_}
 use mathlib.Core.Path.{_≡_, refl, sym, _∙_}
 use mathlib.Core.Logic.{⊎-elim}
 use mathlib.Core.Bool.{Bool, true, false, not, _&&_, and-eq-true-iff, true≢false}
 use native.Mathlib.Omega.{arith}
-use borrow.Author.Tests.{not-true, not-false}
+use borrow.Author.Tests.{not-true}
 use Rattle.sets.specs.Bit.{has}
 use Rattle.sets.specs.Sets.{with, with-above, with-below, part-trans}
 use Rattle.sets.specs.Cores.{Monotone}

@@ -1,7 +1,7 @@
 -- `cores::seeds::settle` meets its contract: a seed that holds is a core, and what a broken one grows to leaves a cut.
 -- Assumes nothing.
 use Prim.Native.Nat.{ℕ, _-_}
-use mathlib.Core.Path.{_≡_, sym, ap, ap₂, _∙_}
+use mathlib.Core.Path.{sym, ap, _∙_}
 use native.Mathlib.Omega.{arith}
 use borrow.Author.Needs.{needs}
 use Rattle.cores.specs.Seeds.{seed-growable, settled-core, settled-cut}

@@ -1,6 +1,6 @@
 -- `cores::seeds::stays_broken` meets its contract: each way out is one of the three tests. Assumes nothing.
 use Prim.Native.Nat.{ℕ}
-use mathlib.Core.Path.{_≡_, refl, sym, ap, _∙_}
+use mathlib.Core.Path.{_≡_, sym, ap, _∙_}
 use mathlib.Core.Bool.{Bool, true, false, not, _&&_, and-false}
 use borrow.Author.Needs.{needs}
 use borrow.Author.Tests.{not-true, not-false}

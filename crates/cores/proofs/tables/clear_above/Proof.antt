@@ -1,9 +1,9 @@
 -- `cores::tables::clear_above` meets its contract. The loop's invariant: w is above the high rules of the set, and the words that are above
 -- them and before w are cleared. Assumes nothing.
-use Prim.Native.Nat.{ℕ, _+_, _-_, _*_, _/_, _%_, _^_, _≤_, _<_}
+use Prim.Native.Nat.{ℕ, _+_, _-_, _/_, _%_, _^_, _≤_, _<_}
 use mathlib.Core.Path.{_≡_, refl, sym}
 use mathlib.Core.Logic.{_↔_, _≢_, inr}
-use mathlib.Core.Bool.{Bool, true, false, not, _&&_, and-eq-true-iff}
+use mathlib.Core.Bool.{Bool, true, not, _&&_, and-eq-true-iff}
 use mathlib.Core.List.{List}
 use native.Mathlib.Omega.{arith}
 use native.Mathlib.Decide.{decLt}
@@ -13,7 +13,7 @@ use lib.Dec.{ltb}
 use lib.Bits.{bitAnd, bitOr, or-add-and, and-le-r}
 use lib.ListN.{length, getD, set, length-set}
 use Rattle.sets.specs.Choice.{alike}
-use Rattle.sets.specs.Bit.{has, full, has-or}
+use Rattle.sets.specs.Bit.{full, has-or}
 use Rattle.sets.specs.Gathered.{setOf, setOf-lt, has-setOf}
 use Rattle.sets.specs.Sets.{_⊑_, part, part-iff, part-refl, part-le, part-split}
 use Rattle.sets.specs.Cores.{false-if}

@@ -1,7 +1,7 @@
 -- `cores::tables::clear_below` meets its contract. The loop's invariant: w is below the high rules of the set, and the words that are below
 -- them and after w are cleared; word 0 comes last. Assumes nothing.
-use Prim.Native.Nat.{ℕ, _-_, _*_, _/_, _%_, _^_, _≤_, _<_}
-use mathlib.Core.Path.{_≡_, refl, sym, ap, ap₂, _∙_}
+use Prim.Native.Nat.{ℕ, _-_, _/_, _%_, _^_, _≤_, _<_}
+use mathlib.Core.Path.{_≡_, refl, sym, ap, _∙_}
 use mathlib.Core.Logic.{_↔_, _≢_}
 use mathlib.Core.Bool.{Bool, true, false, not, _&&_, and-eq-true-iff}
 use mathlib.Core.List.{List}
@@ -13,7 +13,7 @@ use lib.Dec.{ltb}
 use lib.Bits.{bitAnd, and-le-l}
 use lib.ListN.{length, getD, set, length-set}
 use Rattle.sets.specs.Choice.{alike}
-use Rattle.sets.specs.Bit.{has, full, has-and}
+use Rattle.sets.specs.Bit.{full, has-and}
 use Rattle.sets.specs.Gathered.{setOf, setOf-lt, has-setOf}
 use Rattle.sets.specs.Sets.{_⊑_, part, part-iff, part-refl, part-zero, part-le, part-split}
 use Rattle.sets.specs.Cores.{false-if}

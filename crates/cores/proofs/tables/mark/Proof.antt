@@ -1,8 +1,7 @@
 -- `cores::tables::mark` meets its contract: one bit of one word is set, and it is the mark of that set alone. Assumes nothing.
 use Prim.Native.Nat.{ℕ, _*_, _/_, _%_, _^_, _<_}
-use mathlib.Core.Path.{_≡_, sym, ap, ap₂, _∙_}
-use mathlib.Core.Logic.{_≢_}
-use mathlib.Core.Bool.{Bool, true, false, cond, _||_, or-comm}
+use mathlib.Core.Path.{_≡_, ap, _∙_}
+use mathlib.Core.Bool.{cond, _||_, or-comm}
 use mathlib.Core.List.{List}
 use native.Mathlib.Omega.{arith}
 use native.Mathlib.Decide.{ℕ-discrete}

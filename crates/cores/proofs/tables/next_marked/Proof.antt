@@ -1,15 +1,14 @@
 -- `cores::tables::next_marked` meets its contract. The loop's invariant: no set from the place on and before s is marked. What a word has from
 -- s on, shifted down, is 0 or has its first one at the next marked set. Assumes nothing.
 use Prim.Native.Nat.{ℕ, _+_, _-_, _*_, _/_, _%_, _^_, _≤_, _<_}
-use mathlib.Core.Path.{_≡_, refl, sym, ap, _∙_}
+use mathlib.Core.Path.{_≡_, sym, ap, _∙_}
 use mathlib.Core.Logic.{_≢_}
 use mathlib.Core.Bool.{Bool, true, false}
 use mathlib.Core.List.{List}
 use native.Mathlib.Omega.{arith}
 use native.Mathlib.Decide.{decLt}
 use native.Mathlib.Nat.{div-le-self}
-use borrow.Author.Needs.{needs}
-use lib.ListN.{length, getD}
+use lib.ListN.{getD}
 use lib.Count.{trailingZeros, trailing-le}
 use Rattle.sets.specs.Bit.{has, has-high, has-below, has-zero}
 use Rattle.sets.specs.Cores.{false-if}

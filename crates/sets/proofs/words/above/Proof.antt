@@ -1,9 +1,9 @@
 -- `sets::words::above` meets its contract. The loop's invariant: the word has the numbers that lack none of the first i rules of the set.
 -- Assumes nothing.
-use Prim.Native.Nat.{ℕ, _-_, _/_, _%_, _^_, _≤_}
-use mathlib.Core.Path.{_≡_, refl, sym, ap, _∙_}
+use Prim.Native.Nat.{ℕ, _-_, _≤_}
+use mathlib.Core.Path.{_≡_, sym, _∙_}
 use mathlib.Core.Logic.{⊎-elim}
-use mathlib.Core.Bool.{Bool, true, false, not, _&&_}
+use mathlib.Core.Bool.{true, not, Bool·not-not}
 use native.Mathlib.Omega.{arith}
 use borrow.Author.Needs.{needs}
 use borrow.Author.Tests.{eq-eqb, ne-eqb}
@@ -22,11 +22,7 @@ abbrev μ-loop : tie.MeasureT-loop
 
 -- the set has rule i: the numbers that have it are kept
 having-kept : (S i : ℕ) → has S i ≡ true → setOf 64 (λ t. has t i) ≡ setOf 64 (λ t. not (lacking S t i))
-having-kept S i e = setOf-same 64 _ _ (λ t l. rw e (twice (has t i)))
-  where
-    twice : (b : Bool) → b ≡ not (not b)
-    twice true = refl
-    twice false = refl
+having-kept S i e = setOf-same 64 _ _ (λ t l. rw e (sym (Bool·not-not (has t i))))
 
 pub above-spec : {M : Type 1} → statement M
 unfolding noneBelow has

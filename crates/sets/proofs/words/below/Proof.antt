@@ -1,9 +1,9 @@
 -- `sets::words::below` meets its contract. The loop's invariant: the word has the numbers with none of the first i rules that the set lacks.
 -- Assumes nothing.
 use Prim.Native.Nat.{ℕ, _-_, _/_, _%_, _^_, _≤_}
-use mathlib.Core.Path.{_≡_, refl, sym, ap, _∙_}
+use mathlib.Core.Path.{_≡_, _∙_}
 use mathlib.Core.Logic.{⊎-elim}
-use mathlib.Core.Bool.{Bool, true, false, not, and-true, and-false}
+use mathlib.Core.Bool.{false, not, and-true, and-false}
 use native.Mathlib.Omega.{arith}
 use borrow.Author.Needs.{needs}
 use borrow.Author.Tests.{eq-eqb, ne-eqb}
