@@ -1,17 +1,15 @@
 -- The lists and MUST of a text that is read, from the tables of its model: the judgement by the tables is the judgement of the model.
 -- From the laws of the tables (`systems`, `cores`) and of the answers.
-use Prim.Native.Nat.{ℕ, _-_, _*_, _^_, _≤_, _<_}
+use Prim.Native.Nat.{ℕ, _*_, _^_, _≤_, _<_}
 use mathlib.Core.Path.{_≡_, sym, ap, _∙_}
-use mathlib.Core.Bool.{Bool, true, false, not}
+use mathlib.Core.Bool.{Bool, true, false}
 use mathlib.Core.List.{List}
 use native.Mathlib.Omega.{arith}
 use lib.ListN.{length}
-use lib.Pow.{pow-pos}
-use Rattle.sets.specs.Bit.{full}
 use Rattle.sets.specs.Sets.{part-le}
-use Rattle.sets.specs.Cores.{Monotone, breaks, isCore, isCut}
+use Rattle.sets.specs.Cores.{Monotone, isCore, isCut}
 use Rattle.sets.specs.Lists.{listOf, coresOf, cutsOf, mustOf, common}
-use Rattle.sets.specs.Growth.{listOf-agree, coresOf-agree}
+use Rattle.sets.specs.Growth.{listOf-agree, coresOf-agree, cutsOf-agree}
 use Rattle.models.specs.declared.model.Model.{Model}
 use Rattle.models.specs.declared.model.Outcome.the-variants.{Refused}
 use Rattle.systems.specs.Compare.{same-holds}
@@ -29,11 +27,6 @@ use Rattle.codremif.specs.AnswerLaws.{vars-le}
 -- the judgement by the tables of a model, whose masks went over what was there before
 abbrev byTables : List ℕ → List ℕ → Model → ℕ → Bool
 byTables before text m = judgedBy (masksOf before text m) (marksOf (2 ^ m .vars) (startOf text m)) (marksOf (2 ^ m .vars) (badOf text m)) (2 ^ m .vars)
-
--- judgements that agree have the same cuts
-cutsOf-agree : (R : ℕ) (g h : ℕ → Bool) → ((S : ℕ) → S < 2 ^ R → g S ≡ h S) → cutsOf R g ≡ cutsOf R h
-unfolding cutsOf isCut coresOf isCore breaks
-cutsOf-agree R g h same = coresOf-agree R (breaks R g) (breaks R h) (λ S l. ap not (same (full R - S) (omega (arith, pow-pos R))))
 
 module _ {text : List ℕ} {m : Model} (r : IsRead text m) where
   module _ (before : List ℕ) (room : 128 * 2 ^ m .vars ≤ length before) where

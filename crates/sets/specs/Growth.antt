@@ -1,9 +1,9 @@
 -- How the lists grow with their bounds: a part of a list is no longer than the list, tests that agree give the same list, and the list by
 -- size is as long as the list by number. From what one more number adds to each.
-use Prim.Native.Nat.{ℕ, zero, suc, _+_, _^_, _≤_, _<_}
+use Prim.Native.Nat.{ℕ, zero, suc, _+_, _-_, _^_, _≤_, _<_}
 use mathlib.Core.Path.{_≡_, refl, sym, ap, ap₂, _∙_}
 use mathlib.Core.Logic.{⊎-elim}
-use mathlib.Core.Bool.{Bool, true, _&&_}
+use mathlib.Core.Bool.{Bool, true, not, _&&_}
 use mathlib.Core.List.{List, [], _++_}
 use native.Mathlib.Omega.{arith}
 use native.Mathlib.Nat.{eq-or-lt-of-le, le-of-suc-le-suc}
@@ -13,10 +13,12 @@ use borrow.Author.Tests.{lt-ltb, le-ltb, eq-eqb, ne-eqb}
 use lib.Dec.{ltb, eqb}
 use lib.ListN.{length, length-append}
 use lib.Count.{ones, ones-le}
+use lib.Pow.{pow-pos}
 use Rattle.sets.specs.Choice.{alike}
+use Rattle.sets.specs.Bit.{full}
 use Rattle.sets.specs.Sets.{part-le}
-use Rattle.sets.specs.Cores.{Core, isCore, least-agree, isCore-iff}
-use Rattle.sets.specs.Lists.{joined, oneIf, select, sized, bySize, listOf, coresOf}
+use Rattle.sets.specs.Cores.{Core, breaks, isCore, isCut, least-agree, isCore-iff}
+use Rattle.sets.specs.Lists.{joined, oneIf, select, sized, bySize, listOf, coresOf, cutsOf}
 
 -- ---- a part is no longer than the whole
 
@@ -56,10 +58,14 @@ isCore-agree R g h e S l =
     alike (isCore g S) (isCore h S) (λ m. isCore-iff h S .1 (same .0 (isCore-iff g S .0 m)))
     (λ m. isCore-iff g S .1 (same .1 (isCore-iff h S .0 m)))
 
--- Judgements that agree on the sets of R rules have the same core list.
+-- Judgements that agree on the sets of R rules have the same core list, and the same cut list.
 pub coresOf-agree : (R : ℕ) (g h : ℕ → Bool) → ((S : ℕ) → S < 2 ^ R → g S ≡ h S) → coresOf R g ≡ coresOf R h
 unfolding coresOf
 coresOf-agree R g h e = listOf-agree R (isCore g) (isCore h) (isCore-agree R g h e)
+
+pub cutsOf-agree : (R : ℕ) (g h : ℕ → Bool) → ((S : ℕ) → S < 2 ^ R → g S ≡ h S) → cutsOf R g ≡ cutsOf R h
+unfolding cutsOf isCut coresOf isCore breaks
+cutsOf-agree R g h same = coresOf-agree R (breaks R g) (breaks R h) (λ S l. ap not (same (full R - S) (omega (arith, pow-pos R))))
 
 -- ---- the length of the list by size
 

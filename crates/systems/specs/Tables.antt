@@ -1,6 +1,6 @@
--- The tables of a model, as code holds them: the marks of states, and for each pair of states its mask, the set of the rules that it meets.
--- The masks go over the list that was lent for them. The laws read an entry, and say that a pair is a step of a set exactly when the set is a part of its mask. From `Meaning`, and the rules
--- that a number has. Assumes nothing.
+-- The tables of a model, as code holds them: the marks of states, and for each pair of states its mask, the set of the rules that it meets. The
+-- masks go over the list that was lent for them. The laws read an entry, and say that a pair is a step of a set exactly when the set is a
+-- part of its mask. From `Meaning`, and the rules that a number has. Assumes nothing.
 use Prim.Native.Nat.{ℕ, _+_, _*_, _/_, _%_, _^_, _≤_, _<_}
 use mathlib.Core.Path.{_≡_, refl, sym, _∙_}
 use mathlib.Core.Logic.{_↔_}

@@ -25,9 +25,9 @@ record Finding (R : ℕ) (h : ℕ → Bool) (end : ℕ) (unknown cores cuts : Li
 
 -- as many words as before
 record Kept (unknown₀ cores₀ cuts₀ unknown cores cuts : List ℕ) : Type 0 where
-  unknowns : length unknown ≡ length unknown₀
-  coreses : length cores ≡ length cores₀
-  cutses : length cuts ≡ length cuts₀
+  inUnknown : length unknown ≡ length unknown₀
+  inCores : length cores ≡ length cores₀
+  inCuts : length cuts ≡ length cuts₀
 
 start : (R : ℕ) (h : ℕ → Bool) (end : ℕ) (unknown cores cuts : List ℕ) (s : ℕ) → end ≡ 2 ^ R → Going R h unknown cores cuts → NextFrom (marked unknown) 0 end s
     → Finding R h end unknown cores cuts s
@@ -73,7 +73,7 @@ find-spec =
     (λ c κs. let u = c .before .before .before .before .before .before .pre .1 .1 .0 in (omega (arith, c .before .set-count .ensures, pow-mono (u .few)), omega (arith, c .before .set-count .ensures, u .room)))
     (λ c.
     let p = c .before .before .before .before .before .before .before .pre .1 .1 in
-    (record { unknowns = refl; coreses = refl; cutses = refl }, start _ _ _ _ _ _ _ (c .before .before .set-count .ensures) (all-unknown _ _ _ _ _ (p .0) (p .1 .0) (p .1 .1)) (c .next-marked .ensures)))
+    (record { inUnknown = refl; inCores = refl; inCuts = refl }, start _ _ _ _ _ _ _ (c .before .before .set-count .ensures) (all-unknown _ _ _ _ _ (p .0) (p .1 .0) (p .1 .1)) (c .next-marked .ensures)))
     (λ c. omega (arith, c .loop-test .taken, small _ _ _ _ _ _ _ (c .before .loop .inv .1)))
     (λ c κs.
     let p = c .before .before .before .before .before .before .before .before .before .before .before .before .pre in
@@ -84,10 +84,10 @@ find-spec =
     (λ c. omega (arith, c .before .before .before .before .before .before .before .before .before .before .before .before .loop-test .taken, c .next-marked2 .ensures .after (omega (arith, c .before .before .before .before .before .before .before .before .before .before .before .before .loop-test .taken))))
     (λ c.
     let i = c .before .before .before .before .before .before .before .before .before .before .before .before .before .loop .inv in (
-      record { unknowns = c .before .before .before .before .before .before .before .unknown .given ∙ i .0 .unknowns; coreses = c .before .before .before .before .before .cores .given ∙ i .0 .coreses; cutses = c .before .before .before .cuts .given ∙ i .0 .cutses },
+      record { inUnknown = c .before .before .before .before .before .before .before .unknown .given ∙ i .0 .inUnknown; inCores = c .before .before .before .before .before .cores .given ∙ i .0 .inCores; inCuts = c .before .before .before .cuts .given ∙ i .0 .inCuts },
       next _ _ _ _ _ _ _ (i .1) (c .before .before .before .before .before .before .before .before .before .before .before .before .loop-test .taken) _ _ _ _ (c .before .before .before .before .before .before .before .before .settle .ensures) (c .next-marked2 .ensures),
     ))
-    (λ c. c .before .loop .inv .0 .unknowns)
-    (λ c. c .before .loop .inv .0 .coreses)
-    (λ c. c .before .loop .inv .0 .cutses)
+    (λ c. c .before .loop .inv .0 .inUnknown)
+    (λ c. c .before .loop .inv .0 .inCores)
+    (λ c. c .before .loop .inv .0 .inCuts)
     (λ c. all _ _ _ _ _ _ _ (c .before .loop .inv .1) (c .loop-test .left)))

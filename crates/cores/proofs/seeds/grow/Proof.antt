@@ -14,11 +14,11 @@ use Rattle.cores.specs.Seeds.{judgedBy, Growable, Grown, ungrown, grown-
 use Rattle.cores.proofs.seeds.grow.Statement.{statement}
 use Rattle.cores.proofs.seeds.grow.Tie as tie
 
-record Growing (R : ℕ) (h unknown : ℕ → Bool) (S i T : ℕ) : Type 0 where
+record Growing (R : ℕ) (h : ℕ → Bool) (S i T : ℕ) : Type 0 where
   within : i ≤ R
   grown : Grown R h S i T
 
-module _ (R : ℕ) (h unknown : ℕ → Bool) (mono : Monotone R h) (S : ℕ) (able : Growable R h unknown S) (i : ℕ) (l : i < R) {T : ℕ} (g : Growing R h unknown S i T) where
+module _ (R : ℕ) (h unknown : ℕ → Bool) (mono : Monotone R h) (S : ℕ) (able : Growable R h unknown S) (i : ℕ) (l : i < R) {T : ℕ} (g : Growing R h S i T) where
   small : with T i < 2 ^ R
   small = with-below R T i (g .grown .below) l
 
@@ -26,13 +26,13 @@ module _ (R : ℕ) (h unknown : ℕ → Bool) (mono : Monotone R h) (S : ℕ) (a
   abbrev test : Bool
   test = not (has T i) && (unknown (with T i) && not (h (with T i)))
 
-  taken : {U : ℕ} {b : Bool} → b ≡ test → b ≡ true → U ≡ with T i → Growing R h unknown S (i + 1) U
+  taken : {U : ℕ} {b : Bool} → b ≡ test → b ≡ true → U ≡ with T i → Growing R h S (i + 1) U
   taken said t e =
       let later = and-eq-true-iff (not (has T i)) (unknown (with T i) && not (h (with T i))) .0 (sym said ∙ t) .1 in
       let broken = and-eq-true-iff (unknown (with T i)) (not (h (with T i))) .0 later .1 in
       record { within = omega arith; grown = grown-more R h S mono i l (g .grown) e (not-true (h (with T i)) broken) }
 
-  left : {b : Bool} → b ≡ test → b ≡ false → Growing R h unknown S (i + 1) T
+  left : {b : Bool} → b ≡ test → b ≡ false → Growing R h S (i + 1) T
   left said f = record { within = omega arith; grown = grown-same R h S mono i l (g .grown) (λ n. held n (unknown (with T i)) _ refl refl) }
     where
       held : has T i ≡ false → (u v : Bool) → unknown (with T i) ≡ u → h (with T i) ≡ v → h (with T i) ≡ true
@@ -43,7 +43,7 @@ module _ (R : ℕ) (h unknown : ℕ → Bool) (mono : Monotone R h) (S : ℕ) (a
           absurd (true≢false (sym t ∙ sym said ∙ f))
 
 abbrev Inv-loop : tie.InvT-loop
-Inv-loop masks starts bads states rules unknown most₀ i₀ most i = Growing rules (judgedBy masks starts bads states) (marked unknown) (most₀ .0) i (most .0)
+Inv-loop masks starts bads states rules unknown most₀ i₀ most i = Growing rules (judgedBy masks starts bads states) (most₀ .0) i (most .0)
 
 abbrev μ-loop : tie.MeasureT-loop
 μ-loop masks starts bads states rules unknown most₀ i₀ most i = rules - i
