@@ -13,63 +13,62 @@ use Rattle.models.specs.declared.model.Model.{Model}
 use Rattle.models.specs.declared.model.Outcome.the-variants.{Accepted, Refused}
 use Rattle.systems.specs.System.{System}
 use Rattle.systems.specs.Verdict.{holds, traceOf}
-use Rattle.systems.specs.Meaning.{systemOf}
+use Rattle.models.specs.Written.{described}
+use Rattle.semantics.specs.Meaning.{systemOf}
 use Rattle.systems.specs.declared.trace.Trace.{Trace}
-use Rattle.systems.specs.Traced.{trace-holds, trace-states, trace-short}
-use Rattle.systems.specs.Traced as Traced
-use Rattle.systems.specs.TablesTell.{states-le}
+use Rattle.systems.specs.Traced.{traceArray, traceWith}
+use Rattle.systems.specs.Laws.Traced.{trace-holds, trace-states}
 use Rattle.codremif.specs.declared.answers.JudgeAnswer.{JudgeAnswer}
 use Rattle.codremif.specs.declared.answers.JudgeAnswer.the-variants.{Refused as JudgeRefused, Holds, Broken}
-use Rattle.codremif.specs.Answers.{IsRead, modelOf, systemIn, traceIn, textOutcome, judgeOutcome, verdictOf, judgeAnswer, judgeBytes}
-use Rattle.codremif.specs.AnswerLaws.{vars-most, judge-numbers, verdict-held, verdict-broken}
+use Rattle.codremif.specs.Answers.{IsRead, rulesIn, systemIn, traceIn, textOutcome, judgeOutcome, after, verdictOf, judgeAnswer, judgeBytes}
+use Rattle.codremif.specs.Laws.Answers.{read-model, rules-read, given-accepted, given-refused, judge-numbers, verdict-held, verdict-broken}
+use Rattle.codremif.specs.Lent.{Front}
+use Rattle.codremif.specs.Laws.Host.{trace-le}
 
 -- a call answers `answer` and leaves the lent bytes as `bytes`
 abbrev pub Gives : List ℕ → ℕ → List ℕ → JudgeAnswer → List ℕ → Type 0
 Gives text S lent answer bytes = (answer ≡ judgeAnswer text S lent) × (bytes ≡ judgeBytes text S lent)
 
 refused : (text : List ℕ) (S : ℕ) (lent : List ℕ) {number line : ℕ} → judgeOutcome text S lent ≡ Refused number line → Gives text S lent (JudgeRefused number line) lent
-unfolding judgeAnswer judgeBytes
-refused text S lent e = (rw e, rw e)
+unfolding judgeAnswer judgeBytes after
+refused text S lent e = (sym (given-refused JudgeRefused _ e), sym (given-refused _ _ e))
 
 accepted : (text : List ℕ) (S : ℕ) (lent : List ℕ) → judgeOutcome text S lent ≡ Accepted
     → Gives text S lent (verdictOf (systemIn text S)) (overwritten (traceIn text S) lent)
-unfolding judgeAnswer judgeBytes
-accepted text S lent e = (rw e, rw e)
+unfolding judgeAnswer judgeBytes after
+accepted text S lent e = (sym (given-accepted JudgeRefused _ e), sym (given-accepted _ _ e))
 
 -- a text that is refused
 pub by-text : (text : List ℕ) (S : ℕ) (lent : List ℕ) {number line : ℕ} → textOutcome text ≡ Refused number line → Gives text S lent (JudgeRefused number line) lent
 by-text text S lent e = refused text S lent (judge-numbers text S lent .byText _ _ e)
 
 module _ {text : List ℕ} {m : Model} (r : IsRead text m) where
-  pub rules-is : m .rules ≡ modelOf text .rules
-  rules-is = ap (λ x. x .rules) (r .model)
-
   pub by-set : (S : ℕ) (lent : List ℕ) → 2 ^ m .rules ≤ S → Gives text S lent (JudgeRefused 10 0) lent
-  by-set S lent h = refused text S lent (judge-numbers text S lent .bySet (r .outcome) (rw rules-is at h))
+  by-set S lent h = refused text S lent (judge-numbers text S lent .bySet (r .outcome) (rw (rules-read r) at h))
 
   -- the trace t of a set S of the rules
-  module _ (S : ℕ) (lent : List ℕ) (set : S < 2 ^ m .rules) {t : Trace} (said : t ≡ Traced.traceIn (systemOf text m S)) where
+  module _ (S : ℕ) (lent : List ℕ) (set : S < 2 ^ m .rules) {t : Trace} (said : t ≡ traceArray (systemOf (described text m) S)) where
     M : System
     M = systemIn text S
 
-    trace-is : t ≡ Traced.traceIn M
+    trace-is : t ≡ traceArray M
     unfolding M systemIn
-    trace-is = said ∙ ap (λ x. Traced.traceIn (systemOf text x S)) (r .model)
+    trace-is = said ∙ ap (λ D. traceArray (systemOf D S)) (read-model r)
 
     states-are : take (t .length) (t .states) ≡ traceIn text S
     unfolding M traceIn
     states-are = rw trace-is (trace-states M)
 
     length-is : t .length ≡ length (traceIn text S)
-    unfolding M traceIn Traced.traceIn Traced.traceWith
+    unfolding M traceIn traceArray traceWith
     length-is = ap (λ x. x .length) trace-is
 
     length-of : t .length ≡ length (traceOf M)
     unfolding M traceIn
     length-of = length-is
 
-    set-in : S < 2 ^ modelOf text .rules
-    set-in = rw rules-is at set
+    set-in : S < 2 ^ rulesIn text
+    set-in = rw (rules-read r) at set
 
     pub by-length : length lent < t .length → Gives text S lent (JudgeRefused 11 0) lent
     by-length h = refused text S lent (judge-numbers text S lent .byLength (r .outcome) set-in (omega (arith, length-is)))
@@ -96,9 +95,10 @@ module _ {text : List ℕ} {m : Model} (r : IsRead text m) where
         (ap Broken length-of ∙ sym (verdict-broken M broken) ∙ g .0, ap (λ l. overwritten l lent) states-are ∙ g .1)
 
     -- what writing the trace asks
-    pub trace-fits : (t .length ≤ 128) × (t .length ≤ length (t .states))
-    unfolding M systemIn systemOf
-    trace-fits = (
-      omega (arith, trace-short M, ap (λ x. x .length) trace-is, states-le (modelOf text .vars) (vars-most text)),
-      omega (arith, ap length states-are, length-take (t .length) (t .states), length-is),
-    )
+    pub trace-fits : t .length ≤ length lent → Front (t .states) (t .length) lent
+    trace-fits h =
+        record {
+          known = omega (arith, ap length states-are, length-take (t .length) (t .states), length-is);
+          few = omega (arith, trace-le text S, length-is);
+          room = h;
+        }

@@ -1,99 +1,79 @@
--- The lists and MUST of a text that is read, from the tables of its model: the judgement by the tables is the judgement of the model.
--- From the laws of the tables (`systems`, `cores`) and of the answers.
-use Prim.Native.Nat.{ℕ, _*_, _^_, _≤_, _<_}
-use mathlib.Core.Path.{_≡_, sym, ap, _∙_}
-use mathlib.Core.Bool.{Bool, true, false}
+-- What finding the lists and MUST of a text that is read gives is what the calls answer and write.
+-- From the places of the text's model telling it, and the laws of the answers.
+use Prim.Native.Nat.{ℕ, _*_}
+use mathlib.Core.Path.{_≡_, refl, sym, ap, ap₂, _∙_}
+use mathlib.Core.Bool.{Bool, true, false, cond}
 use mathlib.Core.List.{List}
-use native.Mathlib.Omega.{arith}
+use borrow.Author.Tests.{ltb-true, ltb-false}
+use lib.Dec.{ltb}
 use lib.ListN.{length}
-use Rattle.sets.specs.Sets.{part-le}
-use Rattle.sets.specs.Cores.{Monotone, isCore, isCut}
-use Rattle.sets.specs.Lists.{listOf, coresOf, cutsOf, mustOf, common}
-use Rattle.sets.specs.Growth.{listOf-agree, coresOf-agree, cutsOf-agree}
+use Rattle.sets.specs.Lists.{mustOf, bytesOf, overwritten}
 use Rattle.models.specs.declared.model.Model.{Model}
 use Rattle.models.specs.declared.model.Outcome.the-variants.{Refused}
-use Rattle.systems.specs.Compare.{same-holds}
-use Rattle.systems.specs.Meaning.{startOf, badOf, judge, judge-monotone}
-use Rattle.systems.specs.Tables.{marksOf, masksOf}
-use Rattle.systems.specs.Tabled.{Fits}
-use Rattle.systems.specs.TablesTell.{tablesOf, masks-fit, tables-same}
-use Rattle.cores.specs.Tables.{marked, Marks}
-use Rattle.cores.specs.Seeds.{judgedBy}
+use Rattle.models.specs.Written.{described}
+use Rattle.semantics.specs.Meaning.{judge}
+use Rattle.cores.specs.declared.which.WhichList.{WhichList}
+use Rattle.cores.specs.Which.{listed}
+use Rattle.analysis.specs.declared.lists.Listed.the-variants.{Count as Found, TooShort}
+use Rattle.analysis.specs.declared.lists.Listed.{Listed}
+use Rattle.analysis.specs.Few.{Few}
+use Rattle.analysis.specs.Lists.{listedAnswer, listedBytes}
+use Rattle.codremif.specs.declared.answers.ListAnswer.{ListAnswer}
 use Rattle.codremif.specs.declared.answers.ListAnswer.the-variants.{Refused as ListRefused}
 use Rattle.codremif.specs.declared.answers.MustAnswer.the-variants.{Refused as MustRefused, Set}
-use Rattle.codremif.specs.Answers.{IsRead, textOutcome, coresIn, cutsIn, listIn, mustIn, listOutcome, listAnswer, listBytes, coresAnswer, coresBytes, cutsAnswer, cutsBytes, mustAnswer}
-use Rattle.codremif.specs.AnswerLaws.{vars-le}
+use Rattle.codremif.specs.Answers.{IsRead, textOutcome, judgeIn, listIn, mustIn, ofListed, after, listAnswer, listBytes, mustAnswer}
+use Rattle.codremif.specs.Laws.Answers.{read-model, vars-le, rules-le, rules-read, given-refused, list-numbers, list-enough}
+use Rattle.codremif.specs.Laws.Answers as Law
 
--- the judgement by the tables of a model, whose masks went over what was there before
-abbrev byTables : List ℕ → List ℕ → Model → ℕ → Bool
-byTables before text m = judgedBy (masksOf before text m) (marksOf (2 ^ m .vars) (startOf text m)) (marksOf (2 ^ m .vars) (badOf text m)) (2 ^ m .vars)
+-- what a call gives for a list
+abbrev pub Lists : WhichList → List ℕ → List ℕ → ListAnswer → List ℕ → Type 0
+Lists which text lent answer bytes = (answer ≡ listAnswer which text lent) × (bytes ≡ listBytes which text lent)
 
 module _ {text : List ℕ} {m : Model} (r : IsRead text m) where
-  module _ (before : List ℕ) (room : 128 * 2 ^ m .vars ≤ length before) where
-    tables-judge : (S : ℕ) → S < 2 ^ m .rules → byTables before text m S ≡ judge text m S
-    unfolding judgedBy judge tablesOf
-    tables-judge S l = same-holds (tables-same before text m room (vars-le r) S l)
+  pub few : Few m
+  few = record { vars = vars-le r; rules = rules-le r }
 
-    tables-monotone : Monotone (m .rules) (byTables before text m)
-    tables-monotone = record {
-      more = λ S T l p e.
-          tables-judge T l ∙ judge-monotone text m .more S T l p (sym (tables-judge S (omega (arith, part-le p))) ∙ e);
-    }
+  pub list-told : (which : WhichList) → listed which (m .rules) (judge (described text m)) ≡ listIn which text
+  unfolding listIn judgeIn
+  list-told which = ap₂ (λ (R : ℕ) D. listed which R (judge D)) (rules-read r) (read-model r)
 
-    -- the tables as the code has them: what judging by them asks, what is found by them, and MUST
-    module _ {masks : List ℕ} {starts bads : List Bool} {states : ℕ} (p : masks ≡ masksOf before text m) (q : starts ≡ marksOf (2 ^ m .vars) (startOf text m)) (t : bads ≡ marksOf (2 ^ m .vars) (badOf text m)) (u : states ≡ 2 ^ m .vars) where
-      alike : judgedBy masks starts bads states ≡ byTables before text m
-      alike = cc
+  pub must-told : mustOf (m .rules) (judge (described text m)) ≡ mustIn text
+  unfolding mustIn judgeIn
+  must-told = ap₂ (λ (R : ℕ) D. mustOf R (judge D)) (rules-read r) (read-model r)
 
-      pub tables-fit : Fits masks states
-      tables-fit = rw (p, u) (masks-fit before text m room (vars-le r))
+  list-given : (which : WhichList) (lent : List ℕ)
+      → Lists which text lent (ofListed (listedAnswer (listIn which text) lent)) (listedBytes (listIn which text) lent)
+  unfolding listedAnswer listedBytes ofListed listAnswer listBytes after
+  list-given which lent = go (ltb (length lent) (2 * length (listIn which text))) refl
+    where
+      go : (b : Bool) → ltb (length lent) (2 * length (listIn which text)) ≡ b
+          → Lists which text lent (ofListed (cond b TooShort (Found (length (listIn which text))))) (cond b lent (overwritten (bytesOf (listIn which text)) lent))
+      go true e =
+          let short = list-numbers which text lent .byLength (r .outcome) (ltb-true _ _ e) in
+          (sym (given-refused ListRefused _ short), sym (given-refused _ _ short))
+      go false e =
+          let g = list-enough text (r .outcome) which lent (ltb-false _ _ e) in
+          (sym (g .says), sym (g .writes))
 
-      pub tables-asked : Monotone (m .rules) (judgedBy masks starts bads states)
-      tables-asked = rw alike tables-monotone
+  pub list-found : (which : WhichList) (lent : List ℕ) {l : Listed} {bytes : List ℕ} {answer : ListAnswer} → answer ≡ ofListed l
+      → (l ≡ listedAnswer (listed which (m .rules) (judge (described text m))) lent) × (bytes ≡ listedBytes (listed which (m .rules) (judge (described text m))) lent)
+      → Lists which text lent answer bytes
+  list-found which lent told found =
+      let g = list-given which lent in (
+        told ∙ ap ofListed (found .0 ∙ ap (λ l. listedAnswer l lent) (list-told which)) ∙ g .0,
+        found .1 ∙ ap (λ l. listedBytes l lent) (list-told which) ∙ g .1,
+      )
 
-      pub cores-found : (table : List ℕ) → Marks (m .rules) (isCore (judgedBy masks starts bads states)) table → listOf (m .rules) (marked table) ≡ coresIn text
-      unfolding coresIn coresOf
-      cores-found table k =
-          listOf-agree (m .rules) (marked table) (isCore (judgedBy masks starts bads states)) (k .each)
-          ∙ ap (coresOf (m .rules)) alike ∙ coresOf-agree (m .rules) (byTables before text m) (judge text m) tables-judge
-          ∙ ap (λ x. coresOf (x .rules) (judge text x)) (r .model)
-
-      pub cuts-found : (table : List ℕ) → Marks (m .rules) (isCut (m .rules) (judgedBy masks starts bads states)) table → listOf (m .rules) (marked table) ≡ cutsIn text
-      unfolding cutsIn cutsOf
-      cuts-found table k =
-          listOf-agree (m .rules) (marked table) (isCut (m .rules) (judgedBy masks starts bads states)) (k .each)
-          ∙ ap (cutsOf (m .rules)) alike ∙ cutsOf-agree (m .rules) (byTables before text m) (judge text m) tables-judge
-          ∙ ap (λ x. cutsOf (x .rules) (judge text x)) (r .model)
-
-      pub tables-must : (S : ℕ) → S ≡ mustOf (m .rules) (judgedBy masks starts bads states) → S ≡ mustIn text
-      unfolding mustIn mustOf
-      tables-must S e =
-          e ∙ ap (mustOf (m .rules)) alike ∙ ap common (coresOf-agree (m .rules) (byTables before text m) (judge text m) tables-judge)
-          ∙ ap (λ x. mustOf (x .rules) (judge text x)) (r .model)
-
-  -- what is answered and written of a list is the call's answer, since the text is accepted
-  pub cores-given : (lent : List ℕ) → (listAnswer (listIn false text) lent ≡ coresAnswer text lent) × (listBytes (listIn false text) lent ≡ coresBytes text lent)
-  unfolding listIn listAnswer listBytes coresAnswer coresBytes listOutcome
-  cores-given lent = (rw (r .outcome), rw (r .outcome))
-
-  pub cuts-given : (lent : List ℕ) → (listAnswer (listIn true text) lent ≡ cutsAnswer text lent) × (listBytes (listIn true text) lent ≡ cutsBytes text lent)
-  unfolding listIn listAnswer listBytes cutsAnswer cutsBytes listOutcome
-  cuts-given lent = (rw (r .outcome), rw (r .outcome))
-
-  pub must-given : (S : ℕ) → S ≡ mustIn text → Set S ≡ mustAnswer text
-  unfolding mustAnswer
-  must-given S q = rw (q, r .outcome)
+  pub must-found : (S : ℕ) → S ≡ mustOf (m .rules) (judge (described text m)) → Set S ≡ mustAnswer text
+  must-found S e = ap Set (e ∙ must-told) ∙ sym (Law.must-given text (r .outcome))
 
 -- a text that is refused
-module _ (text lent : List ℕ) {number line : ℕ} (e : textOutcome text ≡ Refused number line) where
-  pub cores-refused : (ListRefused number line ≡ coresAnswer text lent) × (lent ≡ coresBytes text lent)
-  unfolding coresAnswer coresBytes listOutcome
-  cores-refused = (rw e, rw e)
-
-  pub cuts-refused : (ListRefused number line ≡ cutsAnswer text lent) × (lent ≡ cutsBytes text lent)
-  unfolding cutsAnswer cutsBytes listOutcome
-  cuts-refused = (rw e, rw e)
+pub list-refused : (which : WhichList) (text lent : List ℕ) {number line : ℕ} → textOutcome text ≡ Refused number line → Lists which text lent (ListRefused number line) lent
+unfolding listAnswer listBytes after
+list-refused which text lent e =
+    let o = list-numbers which text lent .byText _ _ e in
+    (sym (given-refused ListRefused _ o), sym (given-refused _ _ o))
 
 pub must-refused : (text : List ℕ) {number line : ℕ} → textOutcome text ≡ Refused number line → MustRefused number line ≡ mustAnswer text
 unfolding mustAnswer
-must-refused text e = rw e
+must-refused text e = sym (given-refused MustRefused _ e)

@@ -7,14 +7,19 @@ use mathlib.Core.Bool.{Bool, true, false, cond}
 use mathlib.Core.List.{List}
 use lib.Dec.{leb, ltb}
 use lib.ListN.{length}
-use Rattle.sets.specs.Lists.{coresOf, cutsOf, mustOf, bytesOf, overwritten}
+use Rattle.sets.specs.Lists.{mustOf, bytesOf, overwritten}
 use Rattle.models.specs.declared.model.Model.{Model}
 use Rattle.models.specs.declared.model.Outcome.{Outcome}
 use Rattle.models.specs.declared.model.Outcome.the-variants.{Accepted, Refused}
 use Rattle.models.specs.Reading.{readModel}
+use Rattle.models.specs.Written.{modelIn}
 use Rattle.systems.specs.System.{System}
 use Rattle.systems.specs.Verdict.{holds, traceOf}
-use Rattle.systems.specs.Meaning.{systemOf, judge}
+use Rattle.semantics.specs.Meaning.{systemOf, judge}
+use Rattle.cores.specs.declared.which.WhichList.{WhichList}
+use Rattle.cores.specs.Which.{listed}
+use Rattle.analysis.specs.declared.lists.Listed.{Listed}
+use Rattle.analysis.specs.declared.lists.Listed.the-variants.{Count as Found, TooShort}
 use Rattle.codremif.specs.declared.answers.JudgeAnswer.{JudgeAnswer}
 use Rattle.codremif.specs.declared.answers.JudgeAnswer.the-variants.{Refused as JudgeRefused, Holds, Broken}
 use Rattle.codremif.specs.declared.answers.ListAnswer.{ListAnswer}
@@ -24,38 +29,33 @@ use Rattle.codremif.specs.declared.answers.MustAnswer.the-variants.{Refu
 
 -- ---- what a text means
 
--- The model that the text is read as.
-unfoldable pub modelOf : List ℕ → Model
-unfolding readModel
-modelOf text = readModel text .model
+-- How many rules its model has.
+unfoldable pub rulesIn : List ℕ → ℕ
+unfolding modelIn
+rulesIn text = length (modelIn text .rules)
 
--- The system of a set of its rules.
+-- The system of a set of its rules, and whether the set holds.
 unfoldable pub systemIn : List ℕ → ℕ → System
-unfolding modelOf systemOf
-systemIn text S = systemOf text (modelOf text) S
+unfolding modelIn systemOf
+systemIn text S = systemOf (modelIn text) S
+
+unfoldable pub judgeIn : List ℕ → ℕ → Bool
+unfolding modelIn judge
+judgeIn text S = judge (modelIn text) S
 
 -- The trace of a set; without a state if the set holds.
 unfoldable pub traceIn : List ℕ → ℕ → List ℕ
 unfolding systemIn traceOf
 traceIn text S = traceOf (systemIn text S)
 
--- The core list, the cut list and MUST.
-unfoldable pub coresIn : List ℕ → List ℕ
-unfolding modelOf judge coresOf
-coresIn text = coresOf (modelOf text .rules) (judge text (modelOf text))
-
-unfoldable pub cutsIn : List ℕ → List ℕ
-unfolding modelOf judge cutsOf
-cutsIn text = cutsOf (modelOf text .rules) (judge text (modelOf text))
-
--- The core list; or with `dual` the cut list, for the cuts are the cores of the dual judgement.
-unfoldable pub listIn : (dual : Bool) → List ℕ → List ℕ
-listIn true text = cutsIn text
-listIn false text = coresIn text
+-- The core list or the cut list, and MUST.
+unfoldable pub listIn : WhichList → List ℕ → List ℕ
+unfolding listed rulesIn judgeIn
+listIn which text = listed which (rulesIn text) (judgeIn text)
 
 unfoldable pub mustIn : List ℕ → ℕ
-unfolding modelOf judge mustOf
-mustIn text = mustOf (modelOf text .rules) (judge text (modelOf text))
+unfolding mustOf rulesIn judgeIn
+mustIn text = mustOf (rulesIn text) (judgeIn text)
 
 -- ---- the first number that fits
 
@@ -77,18 +77,13 @@ textOutcome text = readModel text .outcome
 
 -- 10: the judged set is 2^R or more.
 unfoldable pub setOutcome : List ℕ → ℕ → Outcome
-unfolding refusedIf modelOf
-setOutcome text S = refusedIf (leb (2 ^ modelOf text .rules) S) 10
+unfolding refusedIf rulesIn
+setOutcome text S = refusedIf (leb (2 ^ rulesIn text) S) 10
 
 -- 11: the lent bytes are fewer than what is to be written.
 unfoldable pub lengthOutcome : List ℕ → List ℕ → Outcome
 unfolding refusedIf
 lengthOutcome new lent = refusedIf (ltb (length lent) (length new)) 11
-
--- The text is accepted and read as the model m.
-pub record IsRead (text : List ℕ) (m : Model) : Type 0 where
-  pub outcome : textOutcome text ≡ Accepted
-  pub model : m ≡ modelOf text
 
 -- Judging a set needs one byte for each state of the trace; a set that holds needs none.
 unfoldable pub judgeOutcome : List ℕ → ℕ → List ℕ → Outcome
@@ -96,74 +91,68 @@ unfolding _orElse_ textOutcome setOutcome lengthOutcome traceIn
 judgeOutcome text S lent = textOutcome text orElse setOutcome text S orElse lengthOutcome (traceIn text S) lent
 
 -- Listing sets needs two bytes for each. (MUST needs none: its outcome is the text's.)
-unfoldable pub listOutcome : List ℕ → List ℕ → List ℕ → Outcome
-unfolding _orElse_ textOutcome lengthOutcome bytesOf
-listOutcome text sets lent = textOutcome text orElse lengthOutcome (bytesOf sets) lent
+unfoldable pub listOutcome : WhichList → List ℕ → List ℕ → Outcome
+unfolding _orElse_ textOutcome lengthOutcome bytesOf listIn
+listOutcome which text lent = textOutcome text orElse lengthOutcome (bytesOf (listIn which text)) lent
 
 -- ---- the answers
 
+-- What a call gives: a refused one what `refuse` makes of the number and the line, an accepted one the answer.
+unfoldable pub given : {A : Type 0} → (ℕ → ℕ → A) → Outcome → A → A
+given refuse Accepted answer = answer
+given refuse (Refused number line) answer = refuse number line
+
 -- The lent bytes after a call that writes new ones: bytes past the new ones keep their content, and a refused call changes none.
 unfoldable pub after : Outcome → List ℕ → List ℕ → List ℕ
-unfolding overwritten
-after Accepted new lent = overwritten new lent
-after (Refused number line) new lent = lent
+unfolding given overwritten
+after o new lent = given (λ number line. lent) o (overwritten new lent)
 
 -- The verdict on a system, with its trace's length.
 unfoldable pub verdictOf : System → JudgeAnswer
 unfolding holds traceOf
 verdictOf M = cond (holds M) Holds (Broken (length (traceOf M)))
 
--- What a call answers of what it is asked for, unless it is refused.
-unfoldable pub verdictOn : Outcome → System → JudgeAnswer
-unfolding verdictOf
-verdictOn Accepted M = verdictOf M
-verdictOn (Refused number line) M = JudgeRefused number line
-
-unfoldable pub countOf : Outcome → List ℕ → ListAnswer
-countOf Accepted sets = Count (length sets)
-countOf (Refused number line) sets = ListRefused number line
-
-unfoldable pub setOf : Outcome → ℕ → MustAnswer
-setOf Accepted S = Set S
-setOf (Refused number line) S = MustRefused number line
-
--- What is answered and written of a list of sets for an accepted text: 11 where the lent bytes are too few.
-unfoldable pub listAnswer : List ℕ → List ℕ → ListAnswer
-unfolding countOf lengthOutcome bytesOf
-listAnswer sets lent = countOf (lengthOutcome (bytesOf sets) lent) sets
-
-unfoldable pub listBytes : List ℕ → List ℕ → List ℕ
-unfolding after lengthOutcome bytesOf
-listBytes sets lent = after (lengthOutcome (bytesOf sets) lent) (bytesOf sets) lent
-
 -- Judge a set, with lent bytes for the trace, one per state.
 unfoldable pub judgeAnswer : List ℕ → ℕ → List ℕ → JudgeAnswer
-unfolding verdictOn judgeOutcome systemIn
-judgeAnswer text S lent = verdictOn (judgeOutcome text S lent) (systemIn text S)
+unfolding given judgeOutcome verdictOf systemIn
+judgeAnswer text S lent = given JudgeRefused (judgeOutcome text S lent) (verdictOf (systemIn text S))
 
 unfoldable pub judgeBytes : List ℕ → ℕ → List ℕ → List ℕ
 unfolding after judgeOutcome traceIn
 judgeBytes text S lent = after (judgeOutcome text S lent) (traceIn text S) lent
 
--- List the cores.
-unfoldable pub coresAnswer : List ℕ → List ℕ → ListAnswer
-unfolding countOf listOutcome coresIn
-coresAnswer text lent = countOf (listOutcome text (coresIn text) lent) (coresIn text)
+-- List the cores, or the cuts.
+unfoldable pub listAnswer : WhichList → List ℕ → List ℕ → ListAnswer
+unfolding given listOutcome listIn
+listAnswer which text lent = given ListRefused (listOutcome which text lent) (Count (length (listIn which text)))
 
-unfoldable pub coresBytes : List ℕ → List ℕ → List ℕ
-unfolding after listOutcome coresIn bytesOf
-coresBytes text lent = after (listOutcome text (coresIn text) lent) (bytesOf (coresIn text)) lent
+unfoldable pub listBytes : WhichList → List ℕ → List ℕ → List ℕ
+unfolding after listOutcome listIn bytesOf
+listBytes which text lent = after (listOutcome which text lent) (bytesOf (listIn which text)) lent
 
--- List the cuts.
-unfoldable pub cutsAnswer : List ℕ → List ℕ → ListAnswer
-unfolding countOf listOutcome cutsIn
-cutsAnswer text lent = countOf (listOutcome text (cutsIn text) lent) (cutsIn text)
-
-unfoldable pub cutsBytes : List ℕ → List ℕ → List ℕ
-unfolding after listOutcome cutsIn bytesOf
-cutsBytes text lent = after (listOutcome text (cutsIn text) lent) (bytesOf (cutsIn text)) lent
+-- What finding the list of an accepted text says, as an answer: too short is number 11.
+unfoldable pub ofListed : Listed → ListAnswer
+ofListed (Found n) = Count n
+ofListed TooShort = ListRefused 11 0
 
 -- Give MUST.
 unfoldable pub mustAnswer : List ℕ → MustAnswer
-unfolding setOf textOutcome mustIn
-mustAnswer text = setOf (textOutcome text) (mustIn text)
+unfolding given textOutcome mustIn
+mustAnswer text = given MustRefused (textOutcome text) (Set (mustIn text))
+
+-- A call gave the answer, and wrote the new bytes over the lent ones and nothing else.
+pub record Gives {A : Type 0} (answer : A) (new lent : List ℕ) (answered : A) (bytes : List ℕ) : Type 0 where
+  pub says : answered ≡ answer
+  pub writes : bytes ≡ overwritten new lent
+
+-- ---- a text that has been read
+
+-- The places where the parts of the text's model stand.
+unfoldable pub placesIn : List ℕ → Model
+unfolding readModel
+placesIn text = readModel text .model
+
+-- The text is accepted, and the parts of its model stand at the places m.
+pub record IsRead (text : List ℕ) (m : Model) : Type 0 where
+  pub outcome : textOutcome text ≡ Accepted
+  pub model : m ≡ placesIn text

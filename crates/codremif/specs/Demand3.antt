@@ -1,160 +1,121 @@
--- Demand 3 of the mission, as one theorem about an accepted text and what the three calls answer and write for it: a named part for each
--- sentence. Cores and cuts are stated as judged sets. From the laws of the lists and the duality for any monotone judgement (`sets`), the
--- monotonicity of the verdict (`systems`), and the laws of the answers.
+-- What demand 3 of the mission says of an accepted text and of what the calls for the cores, the cuts and MUST give for it.
+-- What it says of the lists and of MUST is `Demand3` of `sets`, for the judgement of the text's sets; here is what that judgement is, and how
+-- the calls give the lists. The theorems are in `Demands`. Assumes nothing: these are definitions.
 use Prim.Native.Nat.{ℕ, _*_, _^_, _<_, _≤_}
-use mathlib.Core.Path.{_≡_, refl}
+use mathlib.Core.Path.{_≡_}
 use mathlib.Core.Logic.{_↔_}
-use mathlib.Core.Bool.{Bool, true, false}
+use mathlib.Core.Bool.{Bool, true}
 use mathlib.Core.List.{List}
 use lib.ListN.{length}
-use Rattle.sets.specs.Bit.{has, full}
-use Rattle.sets.specs.Cores.{Core, Cut, Least, Monotone}
-use Rattle.sets.specs.Lists.{coresOf, cutsOf, mustOf, bytesOf, overwritten}
-use Rattle.sets.specs.Listed.{Lists, coresOf-lists, cutsOf-lists}
-use Rattle.sets.specs.Edges.{FullBroken, EmptyHolds, full-broken, empty-holds}
-use Rattle.sets.specs.Duality.{Hits, duality}
-use Rattle.models.specs.declared.model.Outcome.the-variants.{Accepted}
-use Rattle.systems.specs.Meaning.{judge, judge-monotone}
+use Rattle.sets.specs.Lists.{bytesOf, overwritten}
+use Rattle.sets.specs.Demand3.{Demand3}
+use Rattle.systems.specs.System.{Breach}
+use Rattle.cores.specs.declared.which.WhichList.the-variants.{Cores, Cuts}
+use Rattle.codremif.specs.declared.answers.JudgeAnswer.{JudgeAnswer}
+use Rattle.codremif.specs.declared.answers.JudgeAnswer.the-variants.{Holds}
 use Rattle.codremif.specs.declared.answers.ListAnswer.{ListAnswer}
 use Rattle.codremif.specs.declared.answers.ListAnswer.the-variants.{Refused as ListRefused, Count}
 use Rattle.codremif.specs.declared.answers.MustAnswer.{MustAnswer}
 use Rattle.codremif.specs.declared.answers.MustAnswer.the-variants.{Set}
-use Rattle.codremif.specs.Answers.{modelOf, coresIn, cutsIn, mustIn, textOutcome, listOutcome, coresAnswer, coresBytes, cutsAnswer, cutsBytes, mustAnswer}
-use Rattle.codremif.specs.AnswerLaws.{list-numbers, must-given}
+use Rattle.codremif.specs.declared.together.Together.{Together}
+use Rattle.codremif.specs.Answers.{rulesIn, systemIn, judgeAnswer, listAnswer, listBytes, mustAnswer}
+use Rattle.codremif.specs.Packing.{judgeParts, listParts, mustParts, packed}
 
--- ---- the judged sets of a text
+-- ---- how calls tell their answers
 
--- How many rules the model of the text has, and the judgement of its sets.
-abbrev pub rulesIn : List ℕ → ℕ
-rulesIn text = modelOf text .rules
+-- What judging a set answers, and how it is told that a set holds, how many sets a list has, that the lent bytes are too few (number 11), and
+-- which rules MUST has.
+pub record Telling (J L M : Type 0) : Type 0 where
+  pub judge : List ℕ → ℕ → List ℕ → J
+  pub holds : J
+  pub count : ℕ → L
+  pub short : L
+  pub set : ℕ → M
 
-abbrev pub judgeIn : List ℕ → ℕ → Bool
-judgeIn text = judge text (modelOf text)
+-- The calls in Rattle.
+unfoldable pub inRattle : Telling JudgeAnswer ListAnswer MustAnswer
+unfolding judgeAnswer
+inRattle = record { judge = judgeAnswer; holds = Holds; count = Count; short = ListRefused 11 0; set = Set }
 
--- The cores and the cuts of the text, as judged sets of its rules.
-pub record IsCore (text : List ℕ) (S : ℕ) : Type 0 where
-  pub rules : S < 2 ^ rulesIn text
-  pub core : Core (judgeIn text) S
+-- The exported calls, by their 64-bit numbers.
+unfoldable pub forHosts : Telling ℕ ℕ ℕ
+unfolding judgeAnswer judgeParts packed
+forHosts = record {
+  judge = λ text S lent. packed (judgeParts (judgeAnswer text S lent));
+  holds = 2 ^ 40;
+  count = λ n. 65536 * n;
+  short = 11;
+  set = λ S. 65536 * S;
+}
 
-pub record IsCut (text : List ℕ) (S : ℕ) : Type 0 where
-  pub rules : S < 2 ^ rulesIn text
-  pub cut : Cut (rulesIn text) (judgeIn text) S
+-- What was lent to the calls for the cores, the cuts and MUST, and what they gave.
+pub record Asked (L M : Type 0) : Type 0 where
+  pub coresLent : List ℕ
+  pub coresAnswer : L
+  pub coresBytes : List ℕ
+  pub cutsLent : List ℕ
+  pub cutsAnswer : L
+  pub cutsBytes : List ℕ
+  pub mustAnswer : M
 
--- ---- the theorem
+-- ---- the demand
 
--- A call lists the sets that are P: each exactly once and nothing else, fewer rules first and then by number. Where enough bytes are lent it
--- answers their number, and the lent bytes begin with exactly these sets and keep their content past them; else it is refused by 11.
-pub record ListsAll (P : ℕ → Type 0) (lent : List ℕ) (answer : ListAnswer) (bytes : List ℕ) : Type 0 where
-  pub list : List ℕ
-  pub sets : Lists list P
-  pub count : 2 * length list ≤ length lent → answer ≡ Count (length list)
+-- Where enough bytes are lent, a call answers the number of sets, and the lent bytes begin with exactly these sets, two bytes each, and keep
+-- their content past them; else it is refused by 11 and no byte changes.
+pub record GivesList {J L M : Type 0} (w : Telling J L M) (list lent : List ℕ) (answer : L) (bytes : List ℕ) : Type 0 where
+  pub count : 2 * length list ≤ length lent → answer ≡ w .count (length list)
   pub written : 2 * length list ≤ length lent → bytes ≡ overwritten (bytesOf list) lent
-  pub refused : length lent < 2 * length list → answer ≡ ListRefused 11 0
+  pub refused : length lent < 2 * length list → answer ≡ w .short
   pub kept : length lent < 2 * length list → bytes ≡ lent
 
--- What the calls for the cores, the cuts and MUST answer and write for a text.
-pub record Demand3 (text coreLent cutLent : List ℕ) (coreAnswer : ListAnswer) (coreBytes : List ℕ) (cutAnswer : ListAnswer) (cutBytes : List ℕ) (must : MustAnswer) : Type 0 where
-  -- The core list has each core exactly once and nothing else.
-  pub coreList : ListsAll (IsCore text) coreLent coreAnswer coreBytes
-  -- The cut list has each cut exactly once and nothing else.
-  pub cutList : ListsAll (IsCut text) cutLent cutAnswer cutBytes
-  -- A set of rules is a cut exactly when it shares a rule with every core and no proper part of it shares a rule with every core.
-  pub cutsHitCores : (S : ℕ) → S < 2 ^ rulesIn text → Cut (rulesIn text) (judgeIn text) S ↔ Least (Hits (rulesIn text) (Core (judgeIn text))) S
-  -- It is a core exactly when it shares a rule with every cut and no proper part of it shares a rule with every cut.
-  pub coresHitCuts : (S : ℕ) → S < 2 ^ rulesIn text
-      → Core (judgeIn text) S ↔ Least (Hits (rulesIn text) (Cut (rulesIn text) (judgeIn text))) S
-  -- The third call answers a set: the MUST rules are exactly those that form a cut alone.
-  pub mustSet : ℕ
-  pub mustGiven : must ≡ Set mustSet
-  pub mustAlone : (i : ℕ) → (has mustSet i ≡ true) ↔ ((i < rulesIn text) × Cut (rulesIn text) (judgeIn text) (2 ^ i))
-  -- Where the property holds, these are exactly the rules in every core.
-  pub mustInEvery : judgeIn text (full (rulesIn text)) ≡ true → (i : ℕ)
-      → (has mustSet i ≡ true) ↔ ((C : ℕ) → C < 2 ^ rulesIn text → Core (judgeIn text) C → has C i ≡ true)
-  -- If the full set is broken, there is no core, the one cut is set 0 and MUST is set 0; if set 0 holds, it is the one core and there is no cut.
-  pub fullBroken : judgeIn text (full (rulesIn text)) ≡ false → FullBroken (rulesIn text) (judgeIn text)
-  pub emptyHolds : judgeIn text 0 ≡ true → EmptyHolds (rulesIn text) (judgeIn text)
+-- By h a set of the text's rules holds exactly when no run of its system comes to a bad state, and exactly when judging it answers so.
+pub record Judges {J L M : Type 0} (w : Telling J L M) (text : List ℕ) (h : ℕ → Bool) : Type 0 where
+  pub byRuns : (S : ℕ) → S < 2 ^ rulesIn text → (h S ≡ true) ↔ ((run : List ℕ) → Breach (systemIn text S) run → ⊥)
+  pub byCall : (S : ℕ) → S < 2 ^ rulesIn text → (lent : List ℕ) → (h S ≡ true) ↔ (w .judge text S lent ≡ w .holds)
 
--- What the three calls give, accepted or refused, is what their definitions say.
-pub record AsCalled (text coreLent cutLent : List ℕ) (coreAnswer : ListAnswer) (coreBytes : List ℕ) (cutAnswer : ListAnswer) (cutBytes : List ℕ) (must : MustAnswer) : Type 0 where
-  pub cores : coreAnswer ≡ coresAnswer text coreLent
-  pub coresWritten : coreBytes ≡ coresBytes text coreLent
-  pub cuts : cutAnswer ≡ cutsAnswer text cutLent
-  pub cutsWritten : cutBytes ≡ cutsBytes text cutLent
-  pub mustRules : must ≡ mustAnswer text
+-- A judgement of the text's sets, a core list, a cut list and MUST of which demand 3 is true, and the three calls give these.
+pub record TextDemand3 {J L M : Type 0} (w : Telling J L M) (text : List ℕ) (a : Asked L M) : Type 0 where
+  pub judgement : ℕ → Bool
+  pub judged : Judges w text judgement
+  pub cores : List ℕ
+  pub cuts : List ℕ
+  pub must : ℕ
+  pub demanded : Demand3 (rulesIn text) judgement cores cuts must
+  pub coresGiven : GivesList w cores (a .coresLent) (a .coresAnswer) (a .coresBytes)
+  pub cutsGiven : GivesList w cuts (a .cutsLent) (a .cutsAnswer) (a .cutsBytes)
+  pub mustGiven : a .mustAnswer ≡ w .set must
 
--- ---- its proof
+-- ---- what the calls give
 
-cores-list : (text : List ℕ) → Lists (coresIn text) (IsCore text)
-unfolding coresIn
-cores-list text =
-    let l = coresOf-lists (rulesIn text) (judgeIn text) in
-    record {
-      each = λ S c. l .each S (c .rules, c .core);
-      only = λ S m. let p = l .only S m in record { rules = p .0; core = p .1 };
-      once = l .once;
-      order = l .order;
-    }
+-- What the calls for the cores, the cuts and MUST give, accepted or refused, is what their definitions say.
+pub record AsCalled (text : List ℕ) (a : Asked ListAnswer MustAnswer) : Type 0 where
+  pub cores : a .coresAnswer ≡ listAnswer Cores text (a .coresLent)
+  pub coresWritten : a .coresBytes ≡ listBytes Cores text (a .coresLent)
+  pub cuts : a .cutsAnswer ≡ listAnswer Cuts text (a .cutsLent)
+  pub cutsWritten : a .cutsBytes ≡ listBytes Cuts text (a .cutsLent)
+  pub must : a .mustAnswer ≡ mustAnswer text
 
-cuts-list : (text : List ℕ) → Lists (cutsIn text) (IsCut text)
-unfolding cutsIn
-cuts-list text =
-    let l = cutsOf-lists (rulesIn text) (judgeIn text) in
-    record {
-      each = λ S c. l .each S (c .rules, c .cut);
-      only = λ S m. let p = l .only S m in record { rules = p .0; cut = p .1 };
-      once = l .once;
-      order = l .order;
-    }
+-- The same as a record of what `codremif::together::ask_all` lent and gave.
+unfoldable pub asked : Together → (coresLent coresBytes cutsLent cutsBytes : List ℕ) → Asked ListAnswer MustAnswer
+asked r coresLent coresBytes cutsLent cutsBytes = record {
+  coresLent = coresLent;
+  coresAnswer = r .cores;
+  coresBytes = coresBytes;
+  cutsLent = cutsLent;
+  cutsAnswer = r .cuts;
+  cutsBytes = cutsBytes;
+  mustAnswer = r .must;
+}
 
-module _ (text : List ℕ) (model : textOutcome text ≡ Accepted) where
-  cores-all : (lent : List ℕ) → ListsAll (IsCore text) lent (coresAnswer text lent) (coresBytes text lent)
-  unfolding coresAnswer coresBytes
-  cores-all lent =
-      let n = list-numbers text (coresIn text) lent in
-      record {
-        list = coresIn text;
-        sets = cores-list text;
-        count = λ h. rw (n .byNone model h);
-        written = λ h. rw (n .byNone model h);
-        refused = λ h. rw (n .byLength model h);
-        kept = λ h. rw (n .byLength model h);
-      }
-
-  cuts-all : (lent : List ℕ) → ListsAll (IsCut text) lent (cutsAnswer text lent) (cutsBytes text lent)
-  unfolding cutsAnswer cutsBytes
-  cuts-all lent =
-      let n = list-numbers text (cutsIn text) lent in
-      record {
-        list = cutsIn text;
-        sets = cuts-list text;
-        count = λ h. rw (n .byNone model h);
-        written = λ h. rw (n .byNone model h);
-        refused = λ h. rw (n .byLength model h);
-        kept = λ h. rw (n .byLength model h);
-      }
-
-  -- For every accepted text, all of this is true together of what the calls answer.
-  pub demand3 : (coreLent cutLent : List ℕ)
-      → Demand3 text coreLent cutLent (coresAnswer text coreLent) (coresBytes text coreLent) (cutsAnswer text cutLent) (cutsBytes text cutLent) (mustAnswer text)
-  unfolding mustIn
-  demand3 coreLent cutLent =
-      let mono : Monotone (rulesIn text) (judgeIn text) = judge-monotone text (modelOf text) in
-      let d = duality (rulesIn text) (judgeIn text) mono in
-      record {
-        coreList = cores-all coreLent;
-        cutList = cuts-all cutLent;
-        cutsHitCores = d .cuts;
-        coresHitCuts = d .cores;
-        mustSet = mustIn text;
-        mustGiven = must-given text model;
-        mustAlone = d .alone;
-        mustInEvery = d .everyCore;
-        fullBroken = full-broken (rulesIn text) (judgeIn text) mono;
-        emptyHolds = empty-holds (rulesIn text) (judgeIn text) mono;
-      }
-
-  -- So it is true of what was given as called.
-  pub as-called : {coreLent cutLent : List ℕ} {coreAnswer : ListAnswer} {coreBytes : List ℕ} {cutAnswer : ListAnswer} {cutBytes : List ℕ} {must : MustAnswer}
-      → AsCalled text coreLent cutLent coreAnswer coreBytes cutAnswer cutBytes must
-      → Demand3 text coreLent cutLent coreAnswer coreBytes cutAnswer cutBytes must
-  as-called {coreLent} {cutLent} c = rw (c .cores, c .coresWritten, c .cuts, c .cutsWritten, c .mustRules) (demand3 coreLent cutLent)
+-- What codremif_cores, codremif_cuts and codremif_must give for a text and these lent bytes.
+unfoldable pub hostAsked : (text coresLent cutsLent : List ℕ) → Asked ℕ ℕ
+unfolding listAnswer listBytes mustAnswer listParts mustParts packed
+hostAsked text coresLent cutsLent = record {
+  coresLent = coresLent;
+  coresAnswer = packed (listParts (listAnswer Cores text coresLent));
+  coresBytes = listBytes Cores text coresLent;
+  cutsLent = cutsLent;
+  cutsAnswer = packed (listParts (listAnswer Cuts text cutsLent));
+  cutsBytes = listBytes Cuts text cutsLent;
+  mustAnswer = packed (mustParts (mustAnswer text));
+}

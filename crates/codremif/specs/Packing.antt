@@ -1,9 +1,8 @@
 -- An answer in the parts that document 01 names, the same for every call, and as the one 64-bit number that a C host gets.
--- From document 01, "Calls" and "When a call is turned away". The law: the number gives each part back. Assumes nothing.
+-- From document 01, "Calls" and "When a call is turned away". Assumes nothing: these are definitions.
 use Prim.Native.Nat.{ℕ, _+_, _*_, _/_, _%_, _^_, _<_}
 use mathlib.Core.Path.{_≡_}
 use mathlib.Core.Bool.{Bool, true, false, cond}
-use native.Mathlib.Omega.{arith}
 use Rattle.codremif.specs.declared.answers.JudgeAnswer.{JudgeAnswer}
 use Rattle.codremif.specs.declared.answers.JudgeAnswer.the-variants.{Refused as JudgeRefused, Holds, Broken}
 use Rattle.codremif.specs.declared.answers.ListAnswer.{ListAnswer}
@@ -46,7 +45,7 @@ mustParts (Set S) = accepted S false
 unfoldable pub packed : Parts → ℕ
 packed p = p .number + 256 * p .line + 65536 * p .amount + cond (p .holds) (2 ^ 40) 0
 
--- ---- the law
+-- ---- what the number gives back
 
 -- Each part fits its place in the packed number.
 pub record InRange (p : Parts) : Type 0 where
@@ -61,11 +60,3 @@ pub record Unpacked (p : Parts) (x : ℕ) : Type 0 where
   pub amount : x / 65536 % 2 ^ 24 ≡ p .amount
   pub holds : x / 2 ^ 40 ≡ cond (p .holds) 1 0
   pub small : x < 2 ^ 64
-
-flag : (b : Bool) → (cond b (2 ^ 40) 0 ≡ 2 ^ 40 * cond b 1 0) × (cond b 1 0 < 2)
-flag true = omega arith
-flag false = omega arith
-
-pub unpacked : (p : Parts) → InRange p → Unpacked p (packed p)
-unfolding packed
-unpacked p f = omega (arith, flag (p .holds))

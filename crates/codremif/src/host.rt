@@ -1,7 +1,9 @@
 // The calls for a C host: numbers and byte slices only. A slice is a pointer and a length to the host.
 ghost use mathlib.Core.Path.{_≡_};
-ghost use Rattle.codremif.specs.Answers.{judgeAnswer, judgeBytes, coresAnswer, coresBytes, cutsAnswer, cutsBytes, mustAnswer};
+ghost use Rattle.cores.specs.declared.which.WhichList.the-variants.{Cores, Cuts};
+ghost use Rattle.codremif.specs.Answers.{judgeAnswer, judgeBytes, listAnswer, listBytes, mustAnswer};
 ghost use Rattle.codremif.specs.Packing.{judgeParts, listParts, mustParts, packed};
+use cores::which::WhichList;
 
 #[no_mangle]
 pub extern "C" fn codremif_judge(text: &[u8], set: u32, trace: &mut [u8]) -> u64
@@ -13,18 +15,18 @@ pub extern "C" fn codremif_judge(text: &[u8], set: u32, trace: &mut [u8]) -> u64
 
 #[no_mangle]
 pub extern "C" fn codremif_cores(text: &[u8], sets: &mut [u8]) -> u64
-    ensures { λ r. ⌜ r ≡ packed (listParts (coresAnswer (now (text .entry)) (now (sets .entry)))) ⌝ }
-    ensures { λ _. ⌜ now (sets .exit) ≡ coresBytes (now (text .entry)) (now (sets .entry)) ⌝ }
+    ensures { λ r. ⌜ r ≡ packed (listParts (listAnswer Cores (now (text .entry)) (now (sets .entry)))) ⌝ }
+    ensures { λ _. ⌜ now (sets .exit) ≡ listBytes Cores (now (text .entry)) (now (sets .entry)) ⌝ }
 {
-    crate::packing::pack_list(crate::listing::list_cores(text, sets))
+    crate::packing::pack_list(crate::listing::list(text, WhichList::Cores, sets))
 }
 
 #[no_mangle]
 pub extern "C" fn codremif_cuts(text: &[u8], sets: &mut [u8]) -> u64
-    ensures { λ r. ⌜ r ≡ packed (listParts (cutsAnswer (now (text .entry)) (now (sets .entry)))) ⌝ }
-    ensures { λ _. ⌜ now (sets .exit) ≡ cutsBytes (now (text .entry)) (now (sets .entry)) ⌝ }
+    ensures { λ r. ⌜ r ≡ packed (listParts (listAnswer Cuts (now (text .entry)) (now (sets .entry)))) ⌝ }
+    ensures { λ _. ⌜ now (sets .exit) ≡ listBytes Cuts (now (text .entry)) (now (sets .entry)) ⌝ }
 {
-    crate::packing::pack_list(crate::listing::list_cuts(text, sets))
+    crate::packing::pack_list(crate::listing::list(text, WhichList::Cuts, sets))
 }
 
 #[no_mangle]

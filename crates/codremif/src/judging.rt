@@ -1,18 +1,16 @@
 // Judging a set of rules: the verdict, and the trace of a broken set in the lent bytes.
 ghost use mathlib.Core.Path.{_≡_};
-ghost use Prim.Native.Nat.{_≤_};
-ghost use lib.ListN.{length, take};
+ghost use lib.ListN.{take};
 ghost use Rattle.sets.specs.Lists.{overwritten};
 ghost use Rattle.codremif.specs.Answers.{IsRead, judgeAnswer, judgeBytes};
+ghost use Rattle.codremif.specs.Lent.{Front};
 use crate::answers::JudgeAnswer;
 use models::model::Model;
 use models::model::Outcome;
 
 // The first n states go to the front of the lent bytes; what is past them keeps its content.
 fn put_front(states: [u8; 128], n: usize, lent: &mut [u8])
-    requires { ⌜ n ≤ 128 ⌝ }
-    requires { ⌜ n ≤ length states ⌝ }
-    requires { ⌜ n ≤ length (now lent) ⌝ }
+    requires { ⌜ Front states n (now lent) ⌝ }
     ensures { λ _. ⌜ now (lent .exit) ≡ overwritten (take n states) (now (lent .entry)) ⌝ }
 {
     let mut i = 0;
@@ -31,7 +29,7 @@ fn judge_model(text: &[u8], m: Model, set: u32, lent: &mut [u8]) -> JudgeAnswer
     if sets::ruleset::set_count(m.rules) <= set as usize {
         return JudgeAnswer::Refused(10, 0);
     }
-    let trace = systems::judging::trace_in(text, m, set as u16);
+    let trace = analysis::trace::trace(text, m, set as u16);
     let n = trace.length;
     if lent.len() < n {
         return JudgeAnswer::Refused(11, 0);

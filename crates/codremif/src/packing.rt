@@ -1,6 +1,6 @@
 // An answer as the one 64-bit number that a C host gets.
 ghost use mathlib.Core.Path.{_≡_};
-ghost use Rattle.codremif.specs.Packing.{Parts, InRange, judgeParts, listParts, mustParts, packed};
+ghost use Rattle.codremif.specs.Packing.{InRange, judgeParts, listParts, mustParts, packed};
 use crate::answers::JudgeAnswer;
 use crate::answers::ListAnswer;
 use crate::answers::MustAnswer;

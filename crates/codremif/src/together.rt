@@ -2,9 +2,10 @@
 ghost use mathlib.Core.Path.{_≡_};
 ghost use Rattle.models.specs.declared.model.Outcome.the-variants.{Accepted};
 ghost use Rattle.codremif.specs.Answers.{textOutcome};
-ghost use Rattle.codremif.specs.Demand3.{Demand3, AsCalled};
+ghost use Rattle.codremif.specs.Demand3.{AsCalled, TextDemand3, inRattle, asked};
 use crate::answers::ListAnswer;
 use crate::answers::MustAnswer;
+use cores::which::WhichList;
 
 pub struct Together {
     pub cores: ListAnswer,
@@ -14,11 +15,12 @@ pub struct Together {
 
 // Lists the cores and the cuts and gives MUST, each call reading the text itself.
 pub fn ask_all(text: &[u8], cores: &mut [u8], cuts: &mut [u8]) -> Together
-    ensures { λ r. ⌜ AsCalled (now (text .entry)) (now (cores .entry)) (now (cuts .entry)) (r .cores) (now (cores .exit)) (r .cuts) (now (cuts .exit)) (r .must) ⌝ }
-    ensures { λ r. ⌜ (textOutcome (now (text .entry)) ≡ Accepted → Demand3 (now (text .entry)) (now (cores .entry)) (now (cuts .entry)) (r .cores) (now (cores .exit)) (r .cuts) (now (cuts .exit)) (r .must)) ⌝ }
+    ensures { λ r. ⌜ AsCalled (now (text .entry)) (asked r (now (cores .entry)) (now (cores .exit)) (now (cuts .entry)) (now (cuts .exit))) ⌝ }
+    ensures { λ r. ⌜ (textOutcome (now (text .entry)) ≡ Accepted →
+        TextDemand3 inRattle (now (text .entry)) (asked r (now (cores .entry)) (now (cores .exit)) (now (cuts .entry)) (now (cuts .exit)))) ⌝ }
 {
-    let a = crate::listing::list_cores(text, cores);
-    let b = crate::listing::list_cuts(text, cuts);
+    let a = crate::listing::list(text, WhichList::Cores, cores);
+    let b = crate::listing::list(text, WhichList::Cuts, cuts);
     let c = crate::must::give_must(text);
     Together {
         cores: a,

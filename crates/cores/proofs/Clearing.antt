@@ -12,8 +12,9 @@ use lib.Bits.{bitAnd}
 use lib.Dec.{eqb}
 use lib.ListN.{length, getD, set, length-set}
 use Rattle.sets.specs.Bit.{has, full}
-use Rattle.sets.specs.Gathered.{and-has, rest-has}
-use Rattle.cores.specs.Tables.{marked, Changed, word-stored}
+use Rattle.sets.specs.Laws.Gathered.{and-has, rest-has}
+use Rattle.cores.specs.Marks.{marked, Changed}
+use Rattle.cores.specs.Laws.Marks.{word-stored}
 
 -- the bits are cleared in the words whose places pass P
 pub record Cleared (P : ℕ → Bool) (bits : ℕ) (before after : List ℕ) : Type 0 where

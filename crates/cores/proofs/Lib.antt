@@ -1,3 +1,5 @@
 -- What the proofs of several functions use.
 mod Clearing
-mod Writing
+mod Passing
+mod Words
+mod Written

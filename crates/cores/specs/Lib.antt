@@ -1,5 +1,7 @@
--- The root of this crate's definitions and laws: tables of sets, what is known while sets are judged, and how a list of sets is written.
-pub mod Tables
+-- The root of this crate's definitions: tables of sets, what is known while sets are judged, which list is meant, and how a list of sets is
+-- written. Their laws stand in `Laws`.
+pub mod Marks
 pub mod Seeds
-pub mod Sorted
+pub mod Which
 pub mod Written
+pub mod Laws

@@ -2,79 +2,44 @@
 // its parts have smaller numbers and are known to be broken. A broken one grows while it stays broken, and what it then lacks is a cut. So one
 // judgement settles as many sets as it can, and no set of which something is known is judged.
 ghost use mathlib.Core.Path.{_≡_};
-ghost use mathlib.Core.Bool.{true, false, not, _&&_};
-ghost use Prim.Native.Nat.{_*_, _^_, _≤_, _<_};
-ghost use lib.ListN.{length};
-ghost use Rattle.sets.specs.Bit.{has, full};
+ghost use mathlib.Core.Bool.{not, _&&_};
+ghost use Rattle.sets.specs.Bit.{has};
 ghost use Rattle.sets.specs.Sets.{with};
-ghost use Rattle.sets.specs.Cores.{Monotone, isCore, isCut};
 ghost use Rattle.sets.specs.Lists.{mustOf};
-ghost use Rattle.systems.specs.Tabled.{Fits};
-ghost use Rattle.cores.specs.Tables.{marked, Marks};
-ghost use Rattle.cores.specs.Seeds.{judgedBy, Seed, Growable, Grown, Going, Settled};
+ghost use Rattle.systems.specs.ByTables.{HasRoom, judgeBy};
+ghost use Rattle.cores.specs.Marks.{marked};
+ghost use Rattle.cores.specs.Seeds.{Judges, Addable, Growable, Grown, Settleable, Settled, Fresh, AllFound, FullHolds};
 use sets::ruleset::RuleSet;
-
-// Whether a set holds.
-fn judged(
-    masks: &[u16],
-    starts: [bool; 128],
-    bads: [bool; 128],
-    states: usize,
-    set: RuleSet,
-) -> bool
-    requires { ⌜ Fits (now masks) states ⌝ }
-    ensures { λ r. ⌜ r ≡ judgedBy (now (masks .entry)) starts bads states (set .0) ⌝ }
-{
-    systems::judging::is_held(masks, starts, bads, states, set.0)
-}
+use systems::tables::Tables;
 
 // Whether a rule can be added to a broken set so that it stays broken. If something is known of the larger set it is that it holds, so only a
 // set of which nothing is known is judged.
-fn stays_broken(
-    masks: &[u16],
-    starts: [bool; 128],
-    bads: [bool; 128],
-    states: usize,
-    unknown: &[u64],
-    set: RuleSet,
-    rule: usize,
-) -> bool
-    requires { ⌜ Fits (now masks) states ⌝ }
-    requires { ⌜ rule < 16 ⌝ }
-    requires { ⌜ with (set .0) rule < 64 * length (now unknown) ⌝ }
+fn stays_broken(masks: &[u16], t: Tables, unknown: &[u64], set: RuleSet, rule: usize) -> bool
+    requires { ⌜ HasRoom (now masks) t ⌝ }
+    requires { ⌜ Addable (now unknown) (set .0) rule ⌝ }
     ensures { λ r. ⌜ r ≡
-        (not (has (set .0) rule) && (marked (now (unknown .entry)) (with (set .0) rule) && not (judgedBy (now (masks .entry)) starts bads states (with (set .0) rule)))) ⌝ }
+        (not (has (set .0) rule) && (marked (now (unknown .entry)) (with (set .0) rule) && not (judgeBy (now (masks .entry)) t (with (set .0) rule)))) ⌝ }
 {
     let more = set.with(rule);
     if set.has(rule) {
         return false;
     }
-    if !crate::tables::is_marked(unknown, more) {
+    if !crate::marks::is_marked(unknown, more) {
         return false;
     }
-    !judged(masks, starts, bads, states, more)
+    !systems::verdict::is_held(masks, t, more.0)
 }
 
 // A broken set above the seed to which no rule can be added so that it stays broken: they are added one by one.
-fn grow(
-    masks: &[u16],
-    starts: [bool; 128],
-    bads: [bool; 128],
-    states: usize,
-    rules: usize,
-    unknown: &[u64],
-    seed: RuleSet,
-) -> RuleSet
-    requires { ⌜ Fits (now masks) states ⌝ }
-    requires { ⌜ Monotone rules (judgedBy (now masks) starts bads states) ⌝ }
-    requires { ⌜ (rules ≤ 16) × (2 ^ rules ≤ 64 * length (now unknown)) ⌝ }
-    requires { ⌜ Growable rules (judgedBy (now masks) starts bads states) (marked (now unknown)) (seed .0) ⌝ }
-    ensures { λ r. ⌜ Grown rules (judgedBy (now (masks .entry)) starts bads states) (seed .0) rules (r .0) ⌝ }
+fn grow(masks: &[u16], t: Tables, unknown: &[u64], seed: RuleSet) -> RuleSet
+    requires { ⌜ Judges (now masks) t ⌝ }
+    requires { ⌜ Growable (t .rules) (judgeBy (now masks) t) (now unknown) (seed .0) ⌝ }
+    ensures { λ r. ⌜ Grown (t .rules) (judgeBy (now (masks .entry)) t) (seed .0) (t .rules) (r .0) ⌝ }
 {
     let mut most = seed;
     let mut i = 0;
-    while i < rules {
-        if stays_broken(masks, starts, bads, states, unknown, most, i) {
+    while i < t.rules {
+        if stays_broken(masks, t, unknown, most, i) {
             most = most.with(i);
         }
         i += 1;
@@ -85,92 +50,50 @@ fn grow(
 // Judges the seed, and notes the core or the cut that it leads to and what that says of other sets.
 fn settle(
     masks: &[u16],
-    starts: [bool; 128],
-    bads: [bool; 128],
-    states: usize,
-    rules: usize,
+    t: Tables,
     unknown: &mut [u64],
     cores: &mut [u64],
     cuts: &mut [u64],
     seed: RuleSet,
 )
-    requires { ⌜ Fits (now masks) states ⌝ }
-    requires { ⌜ Monotone rules (judgedBy (now masks) starts bads states) ⌝ }
-    requires { ⌜ Going rules (judgedBy (now masks) starts bads states) (now unknown) (now cores) (now cuts) ⌝ }
-    requires { ⌜ Seed rules (marked (now unknown)) (seed .0) ⌝ }
-    ensures { λ _. ⌜ Settled rules (judgedBy (now (masks .entry)) starts bads states) (seed .0)
+    requires { ⌜ Settleable (now masks) t (now unknown) (now cores) (now cuts) (seed .0) ⌝ }
+    ensures { λ _. ⌜ Settled (t .rules) (judgeBy (now (masks .entry)) t) (seed .0)
         (now (unknown .entry)) (now (unknown .exit)) (now (cores .exit)) (now (cuts .exit)) ⌝ }
 {
-    if judged(masks, starts, bads, states, seed) {
-        crate::tables::clear_above(unknown, seed);
-        crate::tables::mark(cores, seed);
+    if systems::verdict::is_held(masks, t, seed.0) {
+        crate::marks::clear_above(unknown, seed);
+        crate::marks::mark(cores, seed);
     } else {
-        let most = grow(masks, starts, bads, states, rules, unknown, seed);
-        crate::tables::clear_below(unknown, most);
-        crate::tables::mark(cuts, RuleSet(RuleSet::full(rules).0 - most.0));
+        let most = grow(masks, t, unknown, seed);
+        crate::marks::clear_below(unknown, most);
+        crate::marks::mark(cuts, RuleSet(RuleSet::full(t.rules).0 - most.0));
     }
 }
 
 // Marks the cores and the cuts. When it is called nothing is known of any set, and no core or cut is marked.
-pub fn find(
-    masks: &[u16],
-    starts: [bool; 128],
-    bads: [bool; 128],
-    states: usize,
-    rules: usize,
-    unknown: &mut [u64],
-    cores: &mut [u64],
-    cuts: &mut [u64],
-)
-    requires { ⌜ Fits (now masks) states ⌝ }
-    requires { ⌜ Monotone rules (judgedBy (now masks) starts bads states) ⌝ }
-    requires { ⌜ Marks rules (λ S. true) (now unknown) ⌝ }
-    requires { ⌜ Marks rules (λ S. false) (now cores) ⌝ }
-    requires { ⌜ Marks rules (λ S. false) (now cuts) ⌝ }
-    ensures { λ _. ⌜ Marks rules (isCore (judgedBy (now (masks .entry)) starts bads states)) (now (cores .exit)) ⌝ }
-    ensures { λ _. ⌜ Marks rules (isCut rules (judgedBy (now (masks .entry)) starts bads states)) (now (cuts .exit)) ⌝ }
+pub fn find(masks: &[u16], t: Tables, unknown: &mut [u64], cores: &mut [u64], cuts: &mut [u64])
+    requires { ⌜ Fresh (now masks) t (now unknown) (now cores) (now cuts) ⌝ }
+    ensures { λ _. ⌜ AllFound (t .rules) (judgeBy (now (masks .entry)) t) (now (cores .exit)) (now (cuts .exit)) ⌝ }
 {
-    let end = sets::ruleset::set_count(rules);
-    let mut s = crate::tables::next_marked(unknown, 0, end);
+    let end = sets::ruleset::set_count(t.rules);
+    let mut s = crate::marks::next_marked(unknown, 0, end);
     while s < end {
-        let seed = RuleSet(s as u16);
-        settle(
-            masks,
-            starts,
-            bads,
-            states,
-            rules,
-            unknown,
-            cores,
-            cuts,
-            seed,
-        );
-        s = crate::tables::next_marked(unknown, s + 1, end);
+        settle(masks, t, unknown, cores, cuts, RuleSet(s as u16));
+        s = crate::marks::next_marked(unknown, s + 1, end);
     }
 }
 
 // The rules without which the full set, which holds, is broken: those that can be spared are dropped. One judgement for each rule.
-fn needed(
-    masks: &[u16],
-    starts: [bool; 128],
-    bads: [bool; 128],
-    states: usize,
-    rules: usize,
-    all: RuleSet,
-) -> RuleSet
-    requires { ⌜ Fits (now masks) states ⌝ }
-    requires { ⌜ rules ≤ 16 ⌝ }
-    requires { ⌜ Monotone rules (judgedBy (now masks) starts bads states) ⌝ }
-    requires { ⌜ all .0 ≡ full rules ⌝ }
-    requires { ⌜ judgedBy (now masks) starts bads states (full rules) ≡ true ⌝ }
-    ensures { λ r. ⌜ r .0 ≡ mustOf rules (judgedBy (now (masks .entry)) starts bads states) ⌝ }
+fn needed(masks: &[u16], t: Tables, all: RuleSet) -> RuleSet
+    requires { ⌜ FullHolds (now masks) t (all .0) ⌝ }
+    ensures { λ r. ⌜ r .0 ≡ mustOf (t .rules) (judgeBy (now (masks .entry)) t) ⌝ }
 {
     let mut must = all;
     let mut i = 0;
-    while i < rules {
+    while i < t.rules {
         let less = all.without(i);
         let fewer = must.without(i);
-        if judged(masks, starts, bads, states, less) {
+        if systems::verdict::is_held(masks, t, less.0) {
             must = fewer;
         }
         i += 1;
@@ -179,21 +102,13 @@ fn needed(
 }
 
 // The rules that all cores have in common; if there is no core, none.
-pub fn must_of(
-    masks: &[u16],
-    starts: [bool; 128],
-    bads: [bool; 128],
-    states: usize,
-    rules: usize,
-) -> RuleSet
-    requires { ⌜ Fits (now masks) states ⌝ }
-    requires { ⌜ rules ≤ 16 ⌝ }
-    requires { ⌜ Monotone rules (judgedBy (now masks) starts bads states) ⌝ }
-    ensures { λ r. ⌜ r .0 ≡ mustOf rules (judgedBy (now (masks .entry)) starts bads states) ⌝ }
+pub fn must_of(masks: &[u16], t: Tables) -> RuleSet
+    requires { ⌜ Judges (now masks) t ⌝ }
+    ensures { λ r. ⌜ r .0 ≡ mustOf (t .rules) (judgeBy (now (masks .entry)) t) ⌝ }
 {
-    let all = RuleSet::full(rules);
-    if judged(masks, starts, bads, states, all) {
-        needed(masks, starts, bads, states, rules, all)
+    let all = RuleSet::full(t.rules);
+    if systems::verdict::is_held(masks, t, all.0) {
+        needed(masks, t, all)
     } else {
         RuleSet::EMPTY
     }

@@ -4,6 +4,7 @@ ghost use Prim.Native.Nat.{_≤_};
 use codremif::answers::JudgeAnswer;
 use codremif::answers::ListAnswer;
 use codremif::answers::MustAnswer;
+use cores::which::WhichList;
 use libc::STDOUT_FILENO;
 use models::model::Outcome;
 
@@ -271,19 +272,11 @@ fn show_count(name: &[u8], answer: ListAnswer, lent: [u8; 8]) {
     show_bytes(lent);
 }
 
-fn show_cores(name: &[u8], text: &[u8], room: usize)
+fn show_list(name: &[u8], text: &[u8], which: WhichList, room: usize)
     requires { ⌜ room ≤ 8 ⌝ }
 {
     let mut lent = [7u8; 8];
-    let answer = codremif::listing::list_cores(text, &mut lent[..room]);
-    show_count(name, answer, lent);
-}
-
-fn show_cuts(name: &[u8], text: &[u8], room: usize)
-    requires { ⌜ room ≤ 8 ⌝ }
-{
-    let mut lent = [7u8; 8];
-    let answer = codremif::listing::list_cuts(text, &mut lent[..room]);
+    let answer = codremif::listing::list(text, which, &mut lent[..room]);
     show_count(name, answer, lent);
 }
 
@@ -405,53 +398,67 @@ fn other_models() {
 }
 
 fn core_lists() {
-    show_cores(
+    show_list(
         b"Tremor cores",
         b"vars=3\nrules=3\ninit=!c\nprop=>c&ab\nrule=ra:>CA\nrule=rb:>CB\nrule=vote:>C&AB\n",
+        WhichList::Cores,
         8,
     );
-    show_cores(
+    show_list(
         b"four bytes",
         b"vars=3\nrules=3\ninit=!c\nprop=>c&ab\nrule=ra:>CA\nrule=rb:>CB\nrule=vote:>C&AB\n",
+        WhichList::Cores,
         4,
     );
-    show_cores(
+    show_list(
         b"three bytes",
         b"vars=3\nrules=3\ninit=!c\nprop=>c&ab\nrule=ra:>CA\nrule=rb:>CB\nrule=vote:>C&AB\n",
+        WhichList::Cores,
         3,
     );
-    show_cores(
+    show_list(
         b"no core",
         b"vars=1\nrules=1\ninit=1\nprop=a\nrule=r:1\n",
+        WhichList::Cores,
         0,
     );
-    show_cores(
+    show_list(
         b"a refused text",
         b"vars=1\nrules=1\ninit=A\nprop=1\nrule=r:1\n",
+        WhichList::Cores,
         8,
     );
 }
 
 fn cut_lists() {
-    show_cuts(
+    show_list(
         b"Tremor cuts",
         b"vars=3\nrules=3\ninit=!c\nprop=>c&ab\nrule=ra:>CA\nrule=rb:>CB\nrule=vote:>C&AB\n",
+        WhichList::Cuts,
         8,
     );
-    show_cuts(
+    show_list(
         b"three bytes",
         b"vars=3\nrules=3\ninit=!c\nprop=>c&ab\nrule=ra:>CA\nrule=rb:>CB\nrule=vote:>C&AB\n",
+        WhichList::Cuts,
         3,
     );
-    show_cuts(
+    show_list(
         b"the one cut is set 0",
         b"vars=1\nrules=1\ninit=1\nprop=a\nrule=r:1\n",
+        WhichList::Cuts,
         2,
     );
-    show_cuts(b"no cut", b"vars=1\nrules=1\ninit=1\nprop=1\nrule=r:1\n", 0);
-    show_cuts(
+    show_list(
+        b"no cut",
+        b"vars=1\nrules=1\ninit=1\nprop=1\nrule=r:1\n",
+        WhichList::Cuts,
+        0,
+    );
+    show_list(
         b"the rule twice",
         b"vars=1\nrules=2\ninit=!a\nprop=!a\nrule=r:=Aa\nrule=s:=Aa\n",
+        WhichList::Cuts,
         2,
     );
 }

@@ -4,8 +4,10 @@ use Prim.Native.Nat.{ℕ, _+_, _-_, _*_, _/_, _%_, _^_, _≤_, _<_}
 use mathlib.Core.Path.{_≡_, sym, ap, _∙_}
 use mathlib.Core.Bool.{Bool}
 use native.Mathlib.Omega.{arith}
-use Rattle.sets.specs.Bit.{has, has-low, has-high}
-use Rattle.sets.specs.Gathered.{setOf, setOf-same}
+use Rattle.sets.specs.Bit.{has}
+use Rattle.sets.specs.Laws.Bit.{has-low, has-high}
+use Rattle.sets.specs.Gathered.{setOf}
+use Rattle.sets.specs.Laws.Gathered.{setOf-same}
 
 module _ (block t : ℕ) (l : t < 64) where
   low-bit : (i : ℕ) → i < 6 → has t i ≡ has (64 * block + t) i

@@ -1,4 +1,4 @@
--- What stands at the start of a text by how many operands its first byte takes, for `read`, `value` and `words` alike.
+-- What stands at the start of a text by how many operands its first byte takes, for `read` and `words` alike.
 -- From the definitions of `Reading` and the law that what is read is written.
 use Prim.Native.Nat.{ℕ, _+_, _≤_}
 use mathlib.Core.Path.{_≡_, refl, sym, ap, _∙_}
@@ -14,7 +14,7 @@ use Rattle.exprs.specs.declared.token.Token.the-variants.{Constant, Now,
 use Rattle.exprs.specs.Token.{tokenOf, operandCount}
 use Rattle.exprs.specs.Expr.{Expr, negation, conjunction, disjunction, implication, equivalence, written, size, value}
 use Rattle.exprs.specs.Reading.{before, operands, first, readExpr}
-use Rattle.exprs.specs.ReadingLaws.{read-written}
+use Rattle.exprs.specs.Laws.Reading.{read-written}
 use Rattle.exprs.specs.Answers.{combined}
 
 -- the expression of an operator and its operands; `!` looks at the first only
@@ -31,7 +31,7 @@ node Other d e = d
 
 -- ---- by the number of operands
 
-pub none-follows : (t : Token) (es : List Expr) → operandCount t ≡ 0 → first (before t es) ≡ first (before t [])
+none-follows : (t : Token) (es : List Expr) → operandCount t ≡ 0 → first (before t es) ≡ first (before t [])
 unfolding first before
 none-follows (Constant v) es h = refl
 none-follows (Now i) es h = refl
@@ -127,16 +127,22 @@ fits-in l d q =
     let f = read-written l d (begins l d q .0) (begins l d q .1) in
     omega (arith, ap length (f .text) ∙ length-append (written d) (drop (size d) l))
 
--- A text s that is not empty, the token t of its first byte and the number n of operands that t takes: what stands at the start of s.
-module _ (s : List ℕ) (t : Token) (n : ℕ) (filled : length s ≢ 0) (et : t ≡ tokenOf (getD s 0 0)) (en : n ≡ operandCount t) where
+-- A text s that is not empty, the token t of its first byte and the number n of operands that t takes.
+pub record Opens (s : List ℕ) (t : Token) (n : ℕ) : Type 0 where
+  pub filled : length s ≢ 0
+  pub token : t ≡ tokenOf (getD s 0 0)
+  pub count : n ≡ operandCount t
+
+-- What stands at the start of such a text.
+module _ {s : List ℕ} {t : Token} {n : ℕ} (o : Opens s t n) where
   opened : readExpr s ≡ first (before t (operands (drop 1 s)))
-  opened = not-empty s filled ∙ ap (λ x. first (before x (operands (drop 1 s)))) (sym et)
+  opened = not-empty s (o .filled) ∙ ap (λ x. first (before x (operands (drop 1 s)))) (sym (o .token))
 
   pub takes-none : n ≡ 0 → readExpr s ≡ first (before t [])
-  takes-none h = opened ∙ none-follows t (operands (drop 1 s)) (sym en ∙ h)
+  takes-none h = opened ∙ none-follows t (operands (drop 1 s)) (sym (o .count) ∙ h)
 
   pub lacks-first : n ≢ 0 → readExpr (drop 1 s) ≡ none → readExpr s ≡ none
-  lacks-first h q = opened ∙ ap (λ os. first (before t os)) (begins-not (drop 1 s) q) ∙ lacks-one t (λ k. h (en ∙ k))
+  lacks-first h q = opened ∙ ap (λ os. first (before t os)) (begins-not (drop 1 s) q) ∙ lacks-one t (λ k. h (o .count ∙ k))
 
   module _ (d : Expr) (q : readExpr (drop 1 s) ≡ some d) where
     behind : (es : List Expr) × (operands (drop 1 s) ≡ d ∷ es) × (readExpr (drop (size d) (drop 1 s)) ≡ first es)
@@ -147,11 +153,11 @@ module _ (s : List ℕ) (t : Token) (n : ℕ) (filled : length s ≢ 0) (et : t 
     within = omega (arith, fits-in (drop 1 s) d q, length-drop 1 s)
 
     pub takes-one : n ≡ 1 → readExpr s ≡ some (node t d d)
-    takes-one h = opened ∙ ap (λ os. first (before t os)) (behind .1) ∙ has-one t d (behind .0) (sym en ∙ h)
+    takes-one h = opened ∙ ap (λ os. first (before t os)) (behind .1) ∙ has-one t d (behind .0) (sym (o .count) ∙ h)
 
-    takes-two : (o : Option Expr) → n ≢ 0 → n ≢ 1 → readExpr (drop (1 + size d) s) ≡ o → readExpr s ≡ second t d o
-    takes-two o h k p =
-        opened ∙ ap (λ os. first (before t os)) (behind .1) ∙ has-two t d (behind .0) (λ z. h (en ∙ z)) (λ z. k (en ∙ z))
+    takes-two : (e : Option Expr) → n ≢ 0 → n ≢ 1 → readExpr (drop (1 + size d) s) ≡ e → readExpr s ≡ second t d e
+    takes-two e h k p =
+        opened ∙ ap (λ os. first (before t os)) (behind .1) ∙ has-two t d (behind .0) (λ z. h (o .count ∙ z)) (λ z. k (o .count ∙ z))
         ∙ ap (second t d) (sym (behind .2) ∙ ap readExpr (drop-drop (size d) 1 s) ∙ p)
 
     pub lacks-second : n ≢ 0 → n ≢ 1 → readExpr (drop (1 + size d) s) ≡ none → readExpr s ≡ none

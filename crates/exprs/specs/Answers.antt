@@ -1,4 +1,4 @@
--- What the functions of this crate answer of the expression that a slice begins with: how many bytes it has, its value, and its values at 64 next states.
+-- What the functions of this crate answer of the expression that a slice begins with: how many bytes it has, and its values at 64 next states.
 -- From `Reading`, and the tree's own size and value.
 use Prim.Native.Nat.{ℕ, _+_, _*_}
 use mathlib.Core.Bool.{Bool, not, _&&_, _||_, Bool·beq, false}
@@ -9,8 +9,6 @@ use Rattle.exprs.specs.declared.token.Token.{Token}
 use Rattle.exprs.specs.declared.token.Token.the-variants.{Constant, Now, Next, Not, And, Or, Implies, Alike, Other}
 use Rattle.exprs.specs.declared.reading.Extent.{Extent}
 use Rattle.exprs.specs.declared.reading.Extent.the-variants.{Used, NoExpression}
-use Rattle.exprs.specs.declared.value.Valued.{Valued}
-use Rattle.exprs.specs.declared.value.Valued.the-variants.{Value, Unreadable}
 use Rattle.exprs.specs.declared.words.Worded.{Worded}
 use Rattle.exprs.specs.declared.words.Worded.the-variants.{Word, NoWord}
 use Rattle.exprs.specs.Expr.{Expr, value, size}
@@ -24,15 +22,6 @@ usedBy (some e) = Used (size e)
 unfoldable pub readOf : List ℕ → Extent
 unfolding usedBy
 readOf s = usedBy (readExpr s)
-
-unfoldable pub valueIn : ℕ → ℕ → Option Expr → Valued
-valueIn now next none = Unreadable
-valueIn now next (some e) = Value (value e now next) (size e)
-
--- the value of the expression that s begins with, and its bytes
-unfoldable pub valueOf : List ℕ → ℕ → ℕ → Valued
-unfolding valueIn
-valueOf s now next = valueIn now next (readExpr s)
 
 -- bit t of the word is the value at the next state 64 * block + t
 unfoldable pub wordsIn : ℕ → ℕ → Option Expr → Worded

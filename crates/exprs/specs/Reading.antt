@@ -1,5 +1,5 @@
 -- The reading of a list of bytes. An operand is read from the rest of the text, so a byte is put before the expressions that stand in the
--- rest, and no byte is read twice. `Rattle.exprs.specs.ReadingLaws` shows that what is read is exactly what is written.
+-- rest, and no byte is read twice. `Rattle.exprs.specs.Laws.Reading` shows that what is read is exactly what is written.
 use Prim.Native.Nat.{ℕ}
 use mathlib.Core.List.{List, [], _∷_}
 use mathlib.Core.Option.{Option, none, some}

@@ -1,4 +1,5 @@
-// The values of an expression at 64 next states at once, one bit each: the state now is fixed, and the next states are 64 * block and the 63 after it.
+// The value of an expression over the state now and the state one second later. The state now is fixed, and the values at 64 next states are
+// found at once, one bit each: the next states are 64 * block and the 63 after it. A single value is a bit of this.
 ghost use mathlib.Core.Path.{_≡_};
 ghost use mathlib.Core.List.{[]};
 ghost use Prim.Native.Nat.{_+_, _*_};
@@ -12,6 +13,17 @@ use crate::token::Token;
 pub enum Worded {
     Word(u64, usize),
     NoWord,
+}
+
+// A state's bit at a place. A place past the type's width has no bit.
+fn bit_at(state: usize, place: u8) -> bool
+    ensures { λ r. ⌜ r ≡ has state place ⌝ }
+{
+    if place < 64 {
+        (state >> place) % 2 == 1
+    } else {
+        false
+    }
 }
 
 // One value at all 64 states.
@@ -28,7 +40,7 @@ fn next_bits(place: u8, block: usize) -> u64
     if place < 6 {
         sets::words::having(place as usize)
     } else {
-        same_bits(crate::value::bit_at(block, place - 6))
+        same_bits(bit_at(block, place - 6))
     }
 }
 
@@ -38,7 +50,7 @@ fn word_alone(t: Token, now: usize, block: usize) -> Worded
 {
     match t {
         Token::Constant(v) => Worded::Word(same_bits(v), 1),
-        Token::Now(i) => Worded::Word(same_bits(crate::value::bit_at(now, i)), 1),
+        Token::Now(i) => Worded::Word(same_bits(bit_at(now, i)), 1),
         Token::Next(i) => Worded::Word(next_bits(i, block), 1),
         Token::Not => Worded::NoWord,
         Token::And => Worded::NoWord,

@@ -5,78 +5,95 @@ use mathlib.Core.Bool.{cond}
 use mathlib.Core.List.{List}
 use lib.Dec.{eqb, ltb}
 use lib.ListN.{length, drop, set, replicate}
-use Rattle.models.specs.declared.lines.Line.{Line}
-use Rattle.models.specs.declared.lines.Line.the-variants.{Fault, Read}
+use Rattle.lines.specs.declared.line.Line.{Line}
+use Rattle.lines.specs.declared.line.Line.the-variants.{Fault, Read}
+use Rattle.lines.specs.declared.names.RuleLine.{RuleLine}
+use Rattle.lines.specs.declared.names.RuleLine.the-variants.{RuleFault, RuleRead}
+use Rattle.lines.specs.declared.names.RuleParts.{RuleParts}
+use Rattle.lines.specs.Lines.{countLine, stateLine, ruleLine, isTaken, varsKey, rulesKey, initKey, propKey}
 use Rattle.models.specs.declared.model.Outcome.the-variants.{Accepted, Refused}
+use Rattle.models.specs.declared.model.LineStart.{LineStart}
 use Rattle.models.specs.declared.model.Reading.{Reading}
 use Rattle.models.specs.declared.model.Rules.{Rules}
-use Rattle.models.specs.Lines.{varsLine, rulesLine, stateLine, ruleLine, isTaken, initKey, propKey}
+
+-- ---- the lines one after the other
+
+-- the first line, whose number is 1, begins the text
+abbrev pub textStart : LineStart
+textStart = record { at = 0; line = 1 }
+
+-- the place behind a line of so many bytes
+unfoldable pub behindLine : LineStart → ℕ → LineStart
+behindLine p bytes = record { at = p .at + bytes; line = p .line + 1 }
 
 -- ---- the rule lines
 
--- before the first rule line, which begins at a place of the text
-unfoldable pub noRules : ℕ → Rules
-noRules at = record { number = 0; line = 0; at = at; names = replicate 16 0; steps = replicate 16 0 }
+-- before the first rule line
+unfoldable pub noRules : LineStart → Rules
+noRules p = record { number = 0; place = p; names = replicate 16 0; steps = replicate 16 0 }
 
--- with rule i, whose name and expression stand at these places, before a line that begins at `at`
-unfoldable pub withRule : Rules → ℕ → ℕ → ℕ → ℕ → Rules
-withRule r i name step at = record { number = 0; line = 0; at = at; names = set (r .names) i name; steps = set (r .steps) i step }
+-- with rule i, whose parts stand at these places, before a line at the place p
+unfoldable pub withRule : Rules → ℕ → RuleParts → LineStart → Rules
+withRule r i parts p = record { number = 0; place = p; names = set (r .names) i (parts .name); steps = set (r .steps) i (parts .step) }
 
--- what a line says of rule i, which stands on line i + 5: its name begins behind `rule=`
-unfoldable pub ruled : ℕ → Rules → Line → Rules
-unfolding withRule
-ruled i r (Fault number) = record { number = number; line = i + 5; at = r .at; names = r .names; steps = r .steps }
-ruled i r (Read place bytes) = withRule r i (r .at + 5) (r .at + place) (r .at + bytes)
+-- what a line gives for rule i
+unfoldable pub ruled : ℕ → Rules → RuleLine → Rules
+unfolding withRule behindLine
+ruled i r (RuleFault number) = record { number = number; place = r .place; names = r .names; steps = r .steps }
+ruled i r (RuleRead parts bytes) = withRule r i parts (behindLine (r .place) bytes)
 
 -- the line of rule i, unless an earlier one was refused
 unfoldable pub nextRule : List ℕ → ℕ → ℕ → Rules → Rules
 unfolding ruled ruleLine isTaken
 nextRule text n i r =
-    cond (eqb (r .number) 0) (ruled i r (ruleLine n (isTaken text (r .names) (r .steps) i) (drop (r .at) text))) r
+    let at = r .place .at in
+    cond (eqb (r .number) 0) (ruled i r (ruleLine n (isTaken text (r .names) (r .steps) i) at (drop at text))) r
 
--- the first so many rule lines
-unfoldable pub rulesRead : List ℕ → ℕ → ℕ → ℕ → Rules
+-- the first so many rule lines, from a place on
+unfoldable pub rulesRead : List ℕ → ℕ → LineStart → ℕ → Rules
 unfolding noRules nextRule
-rulesRead text n at zero = noRules at
-rulesRead text n at (suc i) = nextRule text n i (rulesRead text n at i)
+rulesRead text n p zero = noRules p
+rulesRead text n p (suc i) = nextRule text n i (rulesRead text n p i)
 
 -- ---- the whole text
 
 -- a refused text has no part anywhere
-unfoldable pub refused : ℕ → ℕ → Reading
-refused number line = record {
+unfoldable pub refusedReading : ℕ → ℕ → Reading
+refusedReading number line = record {
   outcome = Refused number line;
   model = record { vars = 0; rules = 0; init = 0; prop = 0; names = replicate 16 0; steps = replicate 16 0 };
 }
 
--- go on behind a line, unless it is refused
-unfoldable pub onLine : ℕ → Line → (ℕ → ℕ → Reading) → Reading
-unfolding refused
-onLine line (Fault number) next = refused number line
-onLine line (Read v bytes) next = next v bytes
+-- what follows a line at the place p, unless it is refused
+unfoldable pub following : LineStart → Line → (ℕ → LineStart → Reading) → Reading
+unfolding refusedReading behindLine
+following p (Fault number) next = refusedReading number (p .line)
+following p (Read v bytes) next = next v (behindLine p bytes)
+
+-- read the line at the place p, and go on behind it with what it says
+unfoldable pub onLine : List ℕ → LineStart → (List ℕ → Line) → (ℕ → LineStart → Reading) → Reading
+unfolding following
+onLine text p read next = following p (read (drop (p .at) text)) next
 
 -- after the last rule line: number 9 where bytes follow
 unfoldable pub finished : List ℕ → ℕ → ℕ → ℕ → ℕ → Rules → Reading
-unfolding refused
+unfolding refusedReading
 finished text vars rules init prop r =
     cond (eqb (r .number) 0)
-    (cond (ltb (r .at) (length text))
-    (refused 9 (rules + 5))
+    (cond (ltb (r .place .at) (length text))
+    (refusedReading 9 (r .place .line))
     (record {
       outcome = Accepted;
       model = record { vars = vars; rules = rules; init = init; prop = prop; names = r .names; steps = r .steps };
     }))
-    (refused (r .number) (r .line))
+    (refusedReading (r .number) (r .place .line))
 
 -- the reading of a text
 unfoldable pub readModel : List ℕ → Reading
-unfolding onLine varsLine rulesLine stateLine finished rulesRead
+unfolding onLine countLine stateLine finished rulesRead
 readModel text =
-    onLine 1 (varsLine text) λ vars b₁.
-    onLine 2 (rulesLine (drop b₁ text)) λ rules b₂.
-    let at₃ = b₁ + b₂ in
-    onLine 3 (stateLine initKey vars (drop at₃ text)) λ place₃ b₃.
-    let at₄ = at₃ + b₃ in
-    onLine 4 (stateLine propKey vars (drop at₄ text)) λ place₄ b₄.
-    let at₅ = at₄ + b₄ in
-    finished text vars rules (at₃ + place₃) (at₄ + place₄) (rulesRead text vars at₅ rules)
+    onLine text textStart (countLine varsKey 7) λ vars p₂.
+    onLine text p₂ (countLine rulesKey 16) λ rules p₃.
+    onLine text p₃ (stateLine initKey vars) λ init p₄.
+    onLine text p₄ (stateLine propKey vars) λ prop p₅.
+    finished text vars rules (p₃ .at + init) (p₄ .at + prop) (rulesRead text vars p₅ rules)

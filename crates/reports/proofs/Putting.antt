@@ -6,8 +6,9 @@ use native.Mathlib.Omega.{arith}
 use native.Mathlib.Numerals.{add-one}
 use lib.ListN.{length, getD, drop}
 use lib.Seq.{drop-cons, drop-length}
-use Rattle.models.specs.Written.{line}
-use Rattle.reports.specs.Page.{Page, putByte, put, put-append, length-put}
+use Rattle.lines.specs.Written.{line}
+use Rattle.reports.specs.Page.{Page, putByte, put}
+use Rattle.reports.specs.Laws.Page.{put-append, length-put}
 
 -- Once the entries from i on are put as well, the page p is what it becomes in the end.
 pub record Putting (f : ℕ → List ℕ) (l : List ℕ) (p₀ p : Page) (i : ℕ) : Type 0 where

@@ -1,29 +1,27 @@
--- The keys of the report in letters, and the report of model Tremor as document 01 prints it, computed from its text. Assumes nothing.
+-- The report of model Tremor as document 01 prints it, and two more, computed from their texts. Assumes nothing.
 use mathlib.Core.Path.{_≡_, refl}
-use mathlib.Core.List.{[], _∷_, map}
+use mathlib.Core.List.{[], _∷_}
 use lib.Count.{ones}
 use Rattle.exprs.specs.Token.{tokenOf}
 use Rattle.exprs.specs.Expr.{size}
-use Rattle.models.specs.Bytes.{belongs}
-use Rattle.codremif.specs.Examples.{bytes, lines}
-use Rattle.reports.specs.Report.{verdictKey, holdsWord, brokenWord, stateKey, mustKey, coresKey, coreKey, cutsKey, cutKey, refusedKey, lineKey, reportOf}
-
-pub words : map bytes ("verdict=" ∷ "holds" ∷ "broken" ∷ "state=" ∷ "must=" ∷ "cores=" ∷ "core=" ∷ "cuts=" ∷ "cut=" ∷ "refused=" ∷ "line=" ∷ [])
-    ≡ verdictKey ∷ holdsWord ∷ brokenWord ∷ stateKey ∷ mustKey ∷ coresKey ∷ coreKey ∷ cutsKey ∷ cutKey ∷ refusedKey ∷ lineKey ∷ []
-unfolding bytes
-words = refl
+use Rattle.lines.specs.Bytes.{belongs}
+use Rattle.codremif.specs.Examples.{lines}
+use Rattle.sets.specs.Lists.{mustOf}
+use Rattle.semantics.specs.Meaning.{systemOf, judge}
+use Rattle.cores.specs.Which.{listed}
+use Rattle.reports.specs.Report.{verdictLines, setLine, listLines, modelReport, reportOf}
 
 pub tremor : reportOf (lines ("vars=3" ∷ "rules=3" ∷ "init=!c" ∷ "prop=>c&ab" ∷ "rule=ra:>CA" ∷ "rule=rb:>CB" ∷ "rule=vote:>C&AB" ∷ []))
     ≡ lines ("verdict=holds" ∷ "must=-" ∷ "cores=2" ∷ "core=vote" ∷ "core=ra,rb" ∷ "cuts=2" ∷ "cut=ra,vote" ∷ "cut=rb,vote" ∷ [])
-unfolding reportOf lines size belongs tokenOf ones
+unfolding reportOf modelReport verdictLines systemOf judge setLine mustOf listLines listed lines size belongs tokenOf ones
 tremor = refl
 
 -- Tremor with `ra` as its only rule, which is broken, and a text that is refused
 pub broken : reportOf (lines ("vars=3" ∷ "rules=1" ∷ "init=!c" ∷ "prop=>c&ab" ∷ "rule=ra:>CA" ∷ []))
     ≡ lines ("verdict=broken" ∷ "state=0" ∷ "state=5" ∷ "must=-" ∷ "cores=0" ∷ "cuts=1" ∷ "cut=-" ∷ [])
-unfolding reportOf lines size belongs tokenOf ones
+unfolding reportOf modelReport verdictLines systemOf judge setLine mustOf listLines listed lines size belongs tokenOf ones
 broken = refl
 
 pub refused : reportOf (lines ("vars=3" ∷ "rules=17" ∷ [])) ≡ lines ("refused=2" ∷ "line=2" ∷ [])
-unfolding reportOf lines size belongs tokenOf ones
+unfolding reportOf modelReport verdictLines systemOf judge setLine mustOf listLines listed lines size belongs tokenOf ones
 refused = refl

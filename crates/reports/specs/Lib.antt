@@ -1,5 +1,8 @@
--- The report of a text as bytes, the page of it that is lent, the sets that lent bytes hold, and Tremor's report.
-pub mod Page
-pub mod Report
+-- The report: its bytes (`Report`), the part of it that a page takes (`Page`), the sets that lent bytes hold (`Decoded`), what is known where a
+-- part of it is put (`Known`), and the reports that document 01 prints, computed (`Examples`). What is proved of these stands in `Laws`.
 pub mod Decoded
+pub mod Report
+pub mod Page
+pub mod Known
+pub mod Laws
 pub mod Examples

@@ -1,5 +1,5 @@
-mod listing;
 mod names;
 mod numbers;
 mod page;
 pub mod report;
+mod rows;

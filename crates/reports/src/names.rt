@@ -1,29 +1,27 @@
 // Sets as the names of their rules.
 ghost use mathlib.Core.Path.{_≡_};
-ghost use Prim.Native.Nat.{_^_, _<_};
-ghost use Rattle.codremif.specs.Answers.{IsRead};
+ghost use Rattle.models.specs.Written.{modelIn};
 ghost use Rattle.reports.specs.Page.{pageOf, put};
-ghost use Rattle.reports.specs.Report.{ruleName, namesOf, setLine};
+ghost use Rattle.reports.specs.Report.{nameIn, namesOf, setLine};
+ghost use Rattle.reports.specs.Known.{RuleRead, SetRead};
 use crate::page::Place;
 use models::model::Model;
 use sets::ruleset::RuleSet;
 
 // The name of a rule.
 fn put_name(text: &[u8], m: Model, i: usize, p: Place, page: &mut [u8]) -> Place
-    requires { ⌜ IsRead (now text) m ⌝ }
-    requires { ⌜ i < 16 ⌝ }
-    ensures { λ r. ⌜ pageOf r (now (page .exit)) ≡ put (ruleName (now (text .entry)) i) (pageOf p (now (page .entry))) ⌝ }
+    requires { ⌜ RuleRead (now text) m i ⌝ }
+    ensures { λ r. ⌜ pageOf r (now (page .exit)) ≡ put (nameIn (modelIn (now (text .entry))) i) (pageOf p (now (page .entry))) ⌝ }
 {
     let names = m.names;
     let steps = m.steps;
-    crate::page::put(models::names::name_of(text, names, steps, i), p, page)
+    crate::page::put(lines::names::name_of(text, names, steps, i), p, page)
 }
 
 // The names of a set's rules, in the model's order and with commas: the next rule is always the first of those that are left.
 fn put_names(text: &[u8], m: Model, set: RuleSet, p: Place, page: &mut [u8]) -> Place
-    requires { ⌜ IsRead (now text) m ⌝ }
-    requires { ⌜ set .0 < 2 ^ m .rules ⌝ }
-    ensures { λ r. ⌜ pageOf r (now (page .exit)) ≡ put (namesOf (now (text .entry)) (set .0)) (pageOf p (now (page .entry))) ⌝ }
+    requires { ⌜ SetRead (now text) m (set .0) ⌝ }
+    ensures { λ r. ⌜ pageOf r (now (page .exit)) ≡ put (namesOf (modelIn (now (text .entry))) (set .0)) (pageOf p (now (page .entry))) ⌝ }
 {
     if set.0 == 0 {
         return crate::page::put_byte(b'-', p, page);
@@ -49,10 +47,9 @@ pub(crate) fn set_line(
     p: Place,
     page: &mut [u8],
 ) -> Place
-    requires { ⌜ IsRead (now text) m ⌝ }
-    requires { ⌜ set .0 < 2 ^ m .rules ⌝ }
+    requires { ⌜ SetRead (now text) m (set .0) ⌝ }
     ensures { λ r. ⌜
-        pageOf r (now (page .exit)) ≡ put (setLine (now (text .entry)) (now (key .entry)) (set .0)) (pageOf p (now (page .entry))) ⌝ }
+        pageOf r (now (page .exit)) ≡ put (setLine (modelIn (now (text .entry))) (now (key .entry)) (set .0)) (pageOf p (now (page .entry))) ⌝ }
 {
     let q = crate::page::put(key, p, page);
     let s = put_names(text, m, set, q, page);

@@ -1,6 +1,6 @@
 // Numbers in base ten.
 ghost use mathlib.Core.Path.{_≡_};
-ghost use Rattle.models.specs.Decimal.{decimal};
+ghost use Rattle.lines.specs.Decimal.{decimal};
 ghost use Rattle.reports.specs.Page.{pageOf, put};
 ghost use Rattle.reports.specs.Report.{numberLine};
 use crate::page::Place;

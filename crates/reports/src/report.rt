@@ -1,16 +1,19 @@
 // The report of a text.
 ghost use mathlib.Core.Path.{_≡_};
 ghost use lib.ListN.{length};
-ghost use Rattle.sets.specs.Lists.{overwritten};
 ghost use Rattle.sets.specs.Bit.{full};
-ghost use Rattle.codremif.specs.Answers.{IsRead, systemIn, coresIn, cutsIn, mustIn};
+ghost use Rattle.sets.specs.Lists.{overwritten};
+ghost use Rattle.lines.specs.Bytes.{bytes};
+ghost use Rattle.models.specs.Written.{modelIn};
+ghost use Rattle.codremif.specs.Answers.{IsRead, rulesIn, systemIn, listIn, mustIn};
 ghost use Rattle.codremif.specs.Packing.{listParts};
 ghost use Rattle.reports.specs.Page.{pageOf, put, window};
-ghost use Rattle.reports.specs.Report.{mustKey, coresKey, coreKey, cutsKey, cutKey, verdictLines, setLine, listLines, modelReport, refusalReport, reportOf};
+ghost use Rattle.reports.specs.Report.{verdictLines, setLine, listLines, modelReport, refusalReport, reportOf};
 use crate::page::Place;
 use codremif::answers::JudgeAnswer;
 use codremif::answers::ListAnswer;
 use codremif::answers::MustAnswer;
+use cores::which::WhichList;
 use models::model::Model;
 use models::model::Outcome;
 use sets::ruleset::RuleSet;
@@ -26,7 +29,7 @@ fn refusal(number: u8, line: usize, p: Place, page: &mut [u8]) -> Place
 fn verdict_lines(text: &[u8], m: Model, p: Place, page: &mut [u8]) -> Place
     requires { ⌜ IsRead (now text) m ⌝ }
     ensures { λ r. ⌜
-        pageOf r (now (page .exit)) ≡ put (verdictLines (systemIn (now (text .entry)) (full (m .rules)))) (pageOf p (now (page .entry))) ⌝ }
+        pageOf r (now (page .exit)) ≡ put (verdictLines (systemIn (now (text .entry)) (full (rulesIn (now (text .entry)))))) (pageOf p (now (page .entry))) ⌝ }
 {
     let all = RuleSet::full(m.rules);
     let mut trace = [0u8; 128];
@@ -36,7 +39,7 @@ fn verdict_lines(text: &[u8], m: Model, p: Place, page: &mut [u8]) -> Place
         JudgeAnswer::Holds => crate::page::put(b"verdict=holds\n", p, page),
         JudgeAnswer::Broken(n) => {
             let q = crate::page::put(b"verdict=broken\n", p, page);
-            crate::listing::state_lines(&trace[..n], q, page)
+            crate::rows::state_lines(&trace[..n], q, page)
         }
     }
 }
@@ -44,7 +47,7 @@ fn verdict_lines(text: &[u8], m: Model, p: Place, page: &mut [u8]) -> Place
 fn must_line(text: &[u8], m: Model, p: Place, page: &mut [u8]) -> Place
     requires { ⌜ IsRead (now text) m ⌝ }
     ensures { λ r. ⌜
-        pageOf r (now (page .exit)) ≡ put (setLine (now (text .entry)) mustKey (mustIn (now (text .entry)))) (pageOf p (now (page .entry))) ⌝ }
+        pageOf r (now (page .exit)) ≡ put (setLine (modelIn (now (text .entry))) (bytes "must=") (mustIn (now (text .entry)))) (pageOf p (now (page .entry))) ⌝ }
 {
     let answer = codremif::must::give_must(text);
     match answer {
@@ -63,34 +66,25 @@ fn counted(answer: ListAnswer) -> usize
 }
 
 // The lent bytes are enough for every set there could be, so the call is not refused.
-fn core_lines(text: &[u8], m: Model, p: Place, page: &mut [u8]) -> Place
+fn list_lines(text: &[u8], m: Model, which: WhichList, p: Place, page: &mut [u8]) -> Place
     requires { ⌜ IsRead (now text) m ⌝ }
     ensures { λ r. ⌜
-        pageOf r (now (page .exit)) ≡ put (listLines (now (text .entry)) coresKey coreKey (coresIn (now (text .entry)))) (pageOf p (now (page .entry))) ⌝ }
+        pageOf r (now (page .exit)) ≡ put (listLines (modelIn (now (text .entry))) which (listIn which (now (text .entry)))) (pageOf p (now (page .entry))) ⌝ }
 {
     let mut sets = [0u8; 131072];
-    let n = counted(codremif::listing::list_cores(text, &mut sets));
-    crate::listing::list_lines(text, m, b"cores=", b"core=", &sets, n, p, page)
-}
-
-fn cut_lines(text: &[u8], m: Model, p: Place, page: &mut [u8]) -> Place
-    requires { ⌜ IsRead (now text) m ⌝ }
-    ensures { λ r. ⌜
-        pageOf r (now (page .exit)) ≡ put (listLines (now (text .entry)) cutsKey cutKey (cutsIn (now (text .entry)))) (pageOf p (now (page .entry))) ⌝ }
-{
-    let mut sets = [0u8; 131072];
-    let n = counted(codremif::listing::list_cuts(text, &mut sets));
-    crate::listing::list_lines(text, m, b"cuts=", b"cut=", &sets, n, p, page)
+    let n = counted(codremif::listing::list(text, which, &mut sets));
+    let end = 2 * n;
+    crate::rows::list_lines(text, m, which, &sets[..end], p, page)
 }
 
 fn model_report(text: &[u8], m: Model, p: Place, page: &mut [u8]) -> Place
     requires { ⌜ IsRead (now text) m ⌝ }
-    ensures { λ r. ⌜ pageOf r (now (page .exit)) ≡ put (modelReport (now (text .entry))) (pageOf p (now (page .entry))) ⌝ }
+    ensures { λ r. ⌜ pageOf r (now (page .exit)) ≡ put (modelReport (modelIn (now (text .entry)))) (pageOf p (now (page .entry))) ⌝ }
 {
     let q = verdict_lines(text, m, p, page);
     let s = must_line(text, m, q, page);
-    let t = core_lines(text, m, s, page);
-    cut_lines(text, m, t, page)
+    let t = list_lines(text, m, WhichList::Cores, s, page);
+    list_lines(text, m, WhichList::Cuts, t, page)
 }
 
 // Writes the part of the report that begins after `from` bytes, as much as the page takes, and says how many bytes that are.

@@ -1,16 +1,20 @@
 -- A word that keeps, place by place, the numbers below 64 that fail at no place: what one more place does to it.
 -- The numbers that never fail are those above a set, or those below it. From the sets gathered by tests, and the test that no place fails.
-use Prim.Native.Nat.{ℕ, _+_, _-_, _<_}
+use Prim.Native.Nat.{ℕ, _+_, _<_}
 use mathlib.Core.Path.{_≡_, sym, _∙_}
 use mathlib.Core.Bool.{Bool, false, not, _&&_, and-comm, and-eq-true-iff, true≢false}
 use native.Mathlib.Numerals.{add-one}
 use borrow.Author.Tests.{not-true, not-false}
 use lib.Bits.{bitAnd}
-use Rattle.sets.specs.Choice.{alike}
-use Rattle.sets.specs.Bit.{has, has-below}
-use Rattle.sets.specs.Sets.{part, part-iff}
-use Rattle.sets.specs.Cores.{noneBelow, noneBelow-iff, false-if}
-use Rattle.sets.specs.Gathered.{setOf, setOf-lt, has-setOf, setOf-same, and-setOf}
+use Rattle.sets.specs.Laws.Choice.{alike}
+use Rattle.sets.specs.Bit.{has}
+use Rattle.sets.specs.Laws.Bit.{has-below}
+use Rattle.sets.specs.Sets.{part}
+use Rattle.sets.specs.Laws.Sets.{part-iff}
+use Rattle.sets.specs.Cores.{noneBelow}
+use Rattle.sets.specs.Laws.Cores.{noneBelow-iff, false-if}
+use Rattle.sets.specs.Gathered.{setOf}
+use Rattle.sets.specs.Laws.Gathered.{setOf-lt, has-setOf, setOf-same, and-setOf}
 
 -- T lacks rule j of S
 abbrev pub lacking : ℕ → ℕ → ℕ → Bool

@@ -1,16 +1,10 @@
--- The root of this crate's definitions and laws: a rule set as a number, and the theory of cores and cuts for any judgement of rule sets.
-pub mod Choice
+-- A rule set as a number, and the theory of cores and cuts for any judgement of rule sets. The definitions stand here; what is proved of
+-- them stands in `Laws`.
 pub mod Bit
+pub mod Tabulated
 pub mod Gathered
 pub mod Sets
 pub mod Cores
 pub mod Lists
-pub mod First
-pub mod Listed
-pub mod Must
-pub mod Edges
-pub mod Duality
-pub mod MustRules
-pub mod Neighbours
-pub mod Growth
-pub mod Steps
+pub mod Demand3
+pub mod Laws

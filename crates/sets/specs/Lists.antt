@@ -1,11 +1,8 @@
 -- The lists of a judgement h of rule sets: its cores, its cuts and MUST; and the bytes in which a list is lent.
--- The laws say what grows when a bound grows by one, as a loop does it, and how many bytes there are.
-use Prim.Native.Nat.{ℕ, zero, suc, _+_, _*_, _/_, _%_, _^_}
-use mathlib.Core.Path.{_≡_, refl, ap}
+-- Assumes nothing: these are definitions.
+use Prim.Native.Nat.{ℕ, zero, suc, _/_, _%_, _^_}
 use mathlib.Core.Bool.{Bool, true, false, _&&_}
 use mathlib.Core.List.{List, [], _∷_, _++_}
-use native.Mathlib.Omega.{arith}
-use native.Mathlib.Numerals.{add-one}
 use lib.Dec.{eqb}
 use lib.ListN.{length, drop}
 use lib.Bits.{bitAnd}
@@ -75,19 +72,3 @@ bytesOf (S ∷ l) = S % 256 ∷ S / 256 % 256 ∷ bytesOf l
 -- The lent bytes once new ones are written over their front: bytes past the new ones keep their content.
 unfoldable pub overwritten : List ℕ → List ℕ → List ℕ
 overwritten new lent = new ++ drop (length new) lent
-
--- ---- the laws
-
-pub select-more : (q : ℕ → Bool) (n : ℕ) → select q (n + 1) ≡ select q n ++ oneIf (q n) n
-unfolding select
-select-more q n = rw add-one
-
-pub bytesOf-append : (l m : List ℕ) → bytesOf (l ++ m) ≡ bytesOf l ++ bytesOf m
-unfolding bytesOf
-bytesOf-append [] m = refl
-bytesOf-append (S ∷ l) m = ap (λ (b : List ℕ). S % 256 ∷ S / 256 % 256 ∷ b) (bytesOf-append l m)
-
-pub length-bytesOf : (l : List ℕ) → length (bytesOf l) ≡ 2 * length l
-unfolding bytesOf
-length-bytesOf [] = refl
-length-bytesOf (S ∷ l) = omega (arith, length-bytesOf l)

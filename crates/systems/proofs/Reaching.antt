@@ -3,32 +3,36 @@
 use Prim.Native.Nat.{ℕ, _+_, _-_, _*_, _%_, _≤_, _<_}
 use mathlib.Core.Path.{_≡_, refl, sym, ap, subst, _∙_}
 use mathlib.Core.Logic.{_⊎_, inl, inr, ⊎-elim}
-use mathlib.Core.Bool.{Bool, true, false, not, _&&_, _||_, or-false, true≢false}
+use mathlib.Core.Bool.{Bool, true, false, not, _&&_, _||_, or-false, and-eq-true-iff, true≢false}
 use mathlib.Core.List.{List}
 use mathlib.Mathlib.Data.Bool.Basic.{or-inl, or-inr, eq-false-of-not-eq-true}
 use native.Mathlib.Decide.{ℕ-discrete}
 use native.Mathlib.Nat.{eq-or-lt-of-le}
 use native.Mathlib.Omega.{arith}
-use borrow.Author.Tests.{eqb-true, eq-eqb, ne-eqb}
+use borrow.Author.Tests.{eqb-true, eq-eqb, ne-eqb, not-true, not-false}
 use mir.Val.{boolByte}
 use lib.Bits.{bitAnd, bitOr}
 use lib.Dec.{eqb}
 use lib.ListN.{length, getD, set, take, drop, length-set, length-take, length-drop}
 use lib.Seq.{getD-set-same, getD-set-other, getD-take, getD-drop}
-use Rattle.sets.specs.Choice.{alike}
-use Rattle.systems.specs.Least.{least, any, any-intro, any-elim}
-use Rattle.systems.specs.Count.{count, count-le, count-same, count-more}
+use Rattle.sets.specs.Laws.Choice.{alike}
+use Rattle.systems.specs.Least.{least, any}
+use Rattle.systems.specs.Laws.Least.{any-intro, any-elim}
+use Rattle.systems.specs.Count.{count}
+use Rattle.systems.specs.Laws.Count.{count-le, count-same, count-more}
 use Rattle.systems.specs.System.{System, Reached}
-use Rattle.systems.specs.Walks.{walk-last, reached-start, reached-step, reached-least}
+use Rattle.systems.specs.Laws.Walks.{walk-last, reached-start, reached-step, reached-least}
 use Rattle.systems.specs.Verdict.{holds}
-use Rattle.systems.specs.Judged.{holds-iff}
-use Rattle.systems.specs.Tabled.{marked, stepIn, tabled}
-use Rattle.systems.specs.Marks.{markOf, isHit, isOpen, FirstMarks, RowMarked, RowWalked, NextFrom, NextAny}
+use Rattle.systems.specs.Laws.Holds.{holds-iff}
+use Rattle.systems.specs.declared.tables.Tables.{Tables}
+use Rattle.systems.specs.Next.{NextFrom, NextAny}
+use Rattle.systems.specs.ByTables.{markAt, stepBy, systemBy, judgeBy}
+use Rattle.systems.specs.Marks.{markOf, isHit, isOpen, FirstMarks, RowMarked, RowWalked}
 
 -- ---- one mark
 
 -- Its row has been walked.
-unfoldable pub isWalked : ℕ → Bool
+unfoldable isWalked : ℕ → Bool
 isWalked m = eqb (bitAnd m 2) 2
 
 pub mark-first : (r b : Bool) → bitOr (boolByte r) (boolByte b * 4 % 65536) ≡ markOf r false b
@@ -58,43 +62,30 @@ mark-reached false false false true = refl
 mark-reached false false false false = refl
 
 -- What the bits of a mark say, and what is one bit more.
-record Says (r w b : Bool) : Type 0 where
+record BitsSay (r w b : Bool) : Type 0 where
   walk : bitOr (markOf r w b) 2 ≡ markOf r true b
   hit : isHit (markOf r w b) ≡ (r && b)
   left : isOpen (markOf r w b) ≡ (r && not w)
   walked : isWalked (markOf r w b) ≡ w
 
-says : (r w b : Bool) → Says r w b
+bits-say : (r w b : Bool) → BitsSay r w b
 unfolding markOf isHit isOpen isWalked
-says true true true = record { walk = refl; hit = refl; left = refl; walked = refl }
-says true true false = record { walk = refl; hit = refl; left = refl; walked = refl }
-says true false true = record { walk = refl; hit = refl; left = refl; walked = refl }
-says true false false = record { walk = refl; hit = refl; left = refl; walked = refl }
-says false true true = record { walk = refl; hit = refl; left = refl; walked = refl }
-says false true false = record { walk = refl; hit = refl; left = refl; walked = refl }
-says false false true = record { walk = refl; hit = refl; left = refl; walked = refl }
-says false false false = record { walk = refl; hit = refl; left = refl; walked = refl }
-
-both : (a b : Bool) → (a && b) ≡ true → (a ≡ true) × (b ≡ true)
-both true b e = (refl, e)
-both false b e = absurd (true≢false (sym e))
+bits-say true true true = record { walk = refl; hit = refl; left = refl; walked = refl }
+bits-say true true false = record { walk = refl; hit = refl; left = refl; walked = refl }
+bits-say true false true = record { walk = refl; hit = refl; left = refl; walked = refl }
+bits-say true false false = record { walk = refl; hit = refl; left = refl; walked = refl }
+bits-say false true true = record { walk = refl; hit = refl; left = refl; walked = refl }
+bits-say false true false = record { walk = refl; hit = refl; left = refl; walked = refl }
+bits-say false false true = record { walk = refl; hit = refl; left = refl; walked = refl }
+bits-say false false false = record { walk = refl; hit = refl; left = refl; walked = refl }
 
 either : (a b : Bool) → (a || b) ≡ true → (a ≡ true) ⊎ (b ≡ true)
 either true b e = inl refl
 either false b e = inr e
 
-not-open : (r w : Bool) → (r && not w) ≡ false → r ≡ true → w ≡ true
-not-open true true e f = refl
-not-open true false e f = absurd (true≢false e)
-not-open false w e f = absurd (true≢false (sym f))
-
-not-hit : (r b : Bool) → (r && b) ≡ false → r ≡ true → b ≡ false
-not-hit true b e f = e
-not-hit false b e f = absurd (true≢false (sym f))
-
-is-not : (b : Bool) → not b ≡ true → b ≡ false
-is-not true e = absurd (true≢false (sym e))
-is-not false e = refl
+-- Of two that are not both true, the other one.
+other : (a b : Bool) → (a && b) ≡ false → a ≡ true → b ≡ false
+other a b e f = sym (ap (λ a. a && b) f) ∙ e
 
 -- ---- loops over the marks
 
@@ -141,7 +132,7 @@ module _ {f : ℕ → ℕ} {before after : List ℕ} {t : ℕ} (l : Passed f bef
 pub row-walked : (masks : List ℕ) (states rules s : ℕ) {before after : List ℕ} → 128 * s + states ≤ length masks
     → RowMarked (take (128 * s + states - 128 * s) (drop (128 * s) masks)) rules (set before s (bitOr (getD before s 0) 2)) after
     → RowWalked masks states rules s before after
-unfolding stepIn
+unfolding stepBy
 row-walked masks states rules s {before} {after} h r = record {
   size = r .size ∙ length-set before s (bitOr (getD before s 0) 2);
   at = λ t g.
@@ -172,11 +163,10 @@ pub record Spread (M : System) (marks : List ℕ) : Type 0 where
   pub good : (s : ℕ) → s < M .size → walked s ≡ true → M .bad s ≡ false
   pub closed : (s t : ℕ) → s < M .size → t < M .size → walked s ≡ true → M .step s t ≡ true → reached t ≡ true
 
-pub spread-first : (masks : List ℕ) (starts bads : List Bool) (states set : ℕ) {marks : List ℕ} → FirstMarks starts bads states marks
-    → Spread (tabled masks starts bads states set) marks
-unfolding tabled
-spread-first masks starts bads states set f = record {
-  reached = marked starts;
+pub spread-first : (masks : List ℕ) (tables : Tables) (set : ℕ) {marks : List ℕ} → FirstMarks tables marks → Spread (systemBy masks tables set) marks
+unfolding systemBy
+spread-first masks tables set f = record {
+  reached = markAt (tables .start);
   walked = λ _. false;
   size = f .size;
   at = f .at;
@@ -189,33 +179,34 @@ spread-first masks starts bads states set f = record {
 module _ {M : System} {marks : List ℕ} (x : Spread M marks) where
   reached-here : (s : ℕ) → s < M .size → isOpen (getD marks s 0) ≡ true → (x .reached s ≡ true) × (x .walked s ≡ false)
   reached-here s h e =
-      let (r, w) = both (x .reached s) (not (x .walked s)) (sym (says _ _ (M .bad s) .left) ∙ ap isOpen (sym (x .at s h)) ∙ e) in
-      (r, is-not (x .walked s) w)
+      let (r, w) = and-eq-true-iff (x .reached s) (not (x .walked s)) .0 (sym (bits-say _ _ (M .bad s) .left) ∙ ap isOpen (sym (x .at s h)) ∙ e) in
+      (r, not-true (x .walked s) w)
 
   -- A reached state is bad;
-  pub spread-hit : any (M .size) (λ t. isHit (getD marks t 0)) ≡ true → holds M ≡ false
+  spread-hit : any (M .size) (λ t. isHit (getD marks t 0)) ≡ true → holds M ≡ false
   spread-hit e =
       let p : ℕ → Bool = λ t. isHit (getD marks t 0) in
       let s : ℕ = least (M .size) p in
       let (h, f) = any-elim (M .size) p e in
-      let (r, b) = both (x .reached s) (M .bad s) (sym (says _ (x .walked s) _ .hit) ∙ ap isHit (sym (x .at s h)) ∙ f) in
+      let (r, b) = and-eq-true-iff (x .reached s) (M .bad s) .0 (sym (bits-say _ (x .walked s) _ .hit) ∙ ap isHit (sym (x .at s h)) ∙ f) in
       eq-false-of-not-eq-true (λ t. true≢false (sym b ∙ holds-iff M .0 t .good s (x .runs s h r)))
 
   -- if none is, the next one is not;
   spread-unhit : any (M .size) (λ t. isHit (getD marks t 0)) ≡ false → (s : ℕ) → s < M .size → x .reached s ≡ true → M .bad s ≡ false
   spread-unhit none s h e =
-      not-hit (x .reached s) (M .bad s)
-      (sym (says _ (x .walked s) _ .hit) ∙ ap isHit (sym (x .at s h))
+      other (x .reached s) (M .bad s)
+      (sym (bits-say _ (x .walked s) _ .hit) ∙ ap isHit (sym (x .at s h))
       ∙ eq-false-of-not-eq-true (λ f. true≢false (sym (any-intro (M .size) (λ t. isHit (getD marks t 0)) s h f) ∙ none)))
       e
 
   -- and every row has been walked.
-  pub spread-all : ((k : ℕ) → k < M .size → isOpen (getD marks k 0) ≡ false) → holds M ≡ true
+  spread-all : ((k : ℕ) → k < M .size → isOpen (getD marks k 0) ≡ false) → holds M ≡ true
   spread-all closed = holds-iff M .1 (record { good = good })
     where
       all-walked : (s : ℕ) → s < M .size → x .reached s ≡ true → x .walked s ≡ true
       all-walked s h e =
-          not-open (x .reached s) (x .walked s) (sym (says _ _ (M .bad s) .left) ∙ ap isOpen (sym (x .at s h)) ∙ closed s h) e
+          not-false (x .walked s)
+          (other (x .reached s) (not (x .walked s)) (sym (bits-say _ _ (M .bad s) .left) ∙ ap isOpen (sym (x .at s h)) ∙ closed s h) e)
 
       good : (s : ℕ) → Reached M s → M .bad s ≡ false
       good s r =
@@ -230,106 +221,97 @@ module _ {M : System} {marks : List ℕ} (x : Spread M marks) where
   walked-rows : count (M .size) (λ s. isWalked (getD marks s 0)) ≡ count (M .size) (x .walked)
   walked-rows =
       count-same (λ s. isWalked (getD marks s 0)) (x .walked) (M .size)
-      (λ s h. ap isWalked (x .at s h) ∙ says (x .reached s) _ (M .bad s) .walked)
-
--- The row of one more state is walked, which is reached.
-module _ (masks : List ℕ) (starts bads : List Bool) (states rules s : ℕ) {before after : List ℕ}
-    (x : Spread (tabled masks starts bads states rules) before)
-    (h : s < states)
-    (left : isOpen (getD before s 0) ≡ true)
-    (unhit : any states (λ t. isHit (getD before t 0)) ≡ false)
-    (few : states ≤ 128)
-    (w : RowWalked masks states rules s before after)
-  where
-    pub spread-next : Spread (tabled masks starts bads states rules) after
-    unfolding tabled
-    spread-next = record {
-      reached = λ t. x .reached t || stepIn masks rules s t;
-      walked = λ t. x .walked t || eqb t s;
-      size = w .size ∙ x .size;
-      at = λ t g. w .at t g ∙ ap (λ m. bitOr m (boolByte (stepIn masks rules s t))) (old t g (ℕ-discrete t s))
-          ∙ mark-reached (x .reached t) (x .walked t || eqb t s) (marked bads t) (stepIn masks rules s t);
-      runs = λ t g e.
-          ⊎-elim (λ r. x .runs t g r) (λ r. reached-step (x .runs s h (reached-here x s h left .0)) g r)
-          (either (x .reached t) (stepIn masks rules s t) e);
-      begun = λ t g e. or-inl (x .reached t) (stepIn masks rules s t) (x .begun t g e);
-      good = λ u g e.
-          ⊎-elim (x .good u g) (λ o. spread-unhit x unhit u g (subst (λ u. x .reached u ≡ true) (sym (eqb-true u s o)) (reached-here x s h left .0)))
-          (either (x .walked u) (eqb u s) e);
-      closed = λ u t g l e f.
-          ⊎-elim
-          (λ o. or-inl (x .reached t) (stepIn masks rules s t) (x .closed u t g l o f))
-          (λ o. or-inr (x .reached t) (stepIn masks rules s t) (subst (λ u. stepIn masks rules u t ≡ true) (eqb-true u s o) f))
-          (either (x .walked u) (eqb u s) e);
-    }
-      where
-        old : (t : ℕ) → t < states → Dec (t ≡ s)
-            → getD (set before s (bitOr (getD before s 0) 2)) t 0 ≡ markOf (x .reached t) (x .walked t || eqb t s) (marked bads t)
-        old t g (yes i) =
-            rw i
-            (getD-set-same before s (bitOr (getD before s 0) 2) 0 (omega (arith, x .size))
-            ∙ ap (λ m. bitOr m 2) (x .at s h)
-            ∙ says (x .reached s) (x .walked s) (marked bads s) .walk
-            ∙ ap (λ w. markOf (x .reached s) w (marked bads s)) (sym (or-inr (x .walked s) (eqb s s) (eq-eqb s s refl))))
-        old t g (no i) =
-            getD-set-other before s t (bitOr (getD before s 0) 2) 0 i
-            ∙ x .at t g
-            ∙ ap (λ w. markOf (x .reached t) w (marked bads t)) (rw (ne-eqb t s i) (sym (or-false (x .walked t))))
-
-    -- One row less is left.
-    pub spread-less : states - count states (λ t. isWalked (getD after t 0)) < states - count states (λ t. isWalked (getD before t 0))
-    unfolding tabled spread-next
-    spread-less =
-        omega (
-          arith,
-          walked-rows x,
-          walked-rows spread-next,
-          count-le states (spread-next .walked),
-          count-more (x .walked) (spread-next .walked) (λ k e. or-inl (x .walked k) (eqb k s) e) states s h (reached-here x s h left .1)
-              (or-inr (x .walked s) (eqb s s) (eq-eqb s s refl)),
-        )
-
--- ---- the judgement
+      (λ s h. ap isWalked (x .at s h) ∙ bits-say (x .reached s) _ (M .bad s) .walked)
 
 -- How many rows have not been walked.
 unfoldable pub rowsLeft : ℕ → List ℕ → ℕ
 unfolding isWalked
 rowsLeft states marks = states - count states (λ t. isWalked (getD marks t 0))
 
+-- The row of one more state is walked, which is reached.
+module _ (masks : List ℕ) (tables : Tables) (rules s : ℕ) {before after : List ℕ}
+    (x : Spread (systemBy masks tables rules) before)
+    (h : s < tables .states)
+    (left : isOpen (getD before s 0) ≡ true)
+    (unhit : any (tables .states) (λ t. isHit (getD before t 0)) ≡ false)
+    (few : tables .states ≤ 128)
+    (w : RowWalked masks (tables .states) rules s before after)
+  where
+    spread-next : Spread (systemBy masks tables rules) after
+    unfolding systemBy
+    spread-next = record {
+      reached = λ t. x .reached t || stepBy masks rules s t;
+      walked = λ t. x .walked t || eqb t s;
+      size = w .size ∙ x .size;
+      at = λ t g. w .at t g ∙ ap (λ m. bitOr m (boolByte (stepBy masks rules s t))) (old t g (ℕ-discrete t s))
+          ∙ mark-reached (x .reached t) (x .walked t || eqb t s) (markAt (tables .bad) t) (stepBy masks rules s t);
+      runs = λ t g e.
+          ⊎-elim (λ r. x .runs t g r) (λ r. reached-step (x .runs s h (reached-here x s h left .0)) g r)
+          (either (x .reached t) (stepBy masks rules s t) e);
+      begun = λ t g e. or-inl (x .reached t) (stepBy masks rules s t) (x .begun t g e);
+      good = λ u g e.
+          ⊎-elim (x .good u g) (λ o. spread-unhit x unhit u g (subst (λ u. x .reached u ≡ true) (sym (eqb-true u s o)) (reached-here x s h left .0)))
+          (either (x .walked u) (eqb u s) e);
+      closed = λ u t g l e f.
+          ⊎-elim
+          (λ o. or-inl (x .reached t) (stepBy masks rules s t) (x .closed u t g l o f))
+          (λ o. or-inr (x .reached t) (stepBy masks rules s t) (subst (λ u. stepBy masks rules u t ≡ true) (eqb-true u s o) f))
+          (either (x .walked u) (eqb u s) e);
+    }
+      where
+        old : (t : ℕ) → t < tables .states → Dec (t ≡ s)
+            → getD (set before s (bitOr (getD before s 0) 2)) t 0 ≡ markOf (x .reached t) (x .walked t || eqb t s) (markAt (tables .bad) t)
+        old t g (yes i) =
+            rw i
+            (getD-set-same before s (bitOr (getD before s 0) 2) 0 (omega (arith, x .size))
+            ∙ ap (λ m. bitOr m 2) (x .at s h)
+            ∙ bits-say (x .reached s) (x .walked s) (markAt (tables .bad) s) .walk
+            ∙ ap (λ w. markOf (x .reached s) w (markAt (tables .bad) s)) (sym (or-inr (x .walked s) (eqb s s) (eq-eqb s s refl))))
+        old t g (no i) =
+            getD-set-other before s t (bitOr (getD before s 0) 2) 0 i
+            ∙ x .at t g
+            ∙ ap (λ w. markOf (x .reached t) w (markAt (tables .bad) t)) (rw (ne-eqb t s i) (sym (or-false (x .walked t))))
+
+    -- One row less is left.
+    spread-less : rowsLeft (tables .states) after < rowsLeft (tables .states) before
+    unfolding systemBy spread-next rowsLeft
+    spread-less =
+        omega (
+          arith,
+          walked-rows x,
+          walked-rows spread-next,
+          count-le (tables .states) (spread-next .walked),
+          count-more (x .walked) (spread-next .walked) (λ k e. or-inl (x .walked k) (eqb k s) e) (tables .states) s h (reached-here x s h left .1)
+              (or-inr (x .walked s) (eqb s s) (eq-eqb s s refl)),
+        )
+
+-- ---- the judgement
+
 -- A reached state is bad.
 abbrev pub Hit : ℕ → List ℕ → Bool
 Hit states marks = any states (λ t. isHit (getD marks t 0))
 
--- Whatever the start states and the bad ones are: the marks are spread, and s is the next state to walk from, if there is one.
-pub record Judging (masks : List ℕ) (states rules : ℕ) (first marks : List ℕ) (s : ℕ) : Type 0 where
-  pub spread : {starts bads : List Bool} → FirstMarks starts bads states first → Spread (tabled masks starts bads states rules) marks
-  pub next : NextAny (λ t. isOpen (getD marks t 0)) states s
+-- The marks are spread, and s is the next state to walk from, if there is one.
+pub record Judging (masks : List ℕ) (tables : Tables) (rules : ℕ) (marks : List ℕ) (s : ℕ) : Type 0 where
+  pub spread : Spread (systemBy masks tables rules) marks
+  pub next : NextAny (λ t. isOpen (getD marks t 0)) (tables .states) s
 
-pub judging-first : {masks : List ℕ} {states rules : ℕ} {first : List ℕ} {s : ℕ} → NextAny (λ t. isOpen (getD first t 0)) states s
-    → Judging masks states rules first first s
-judging-first n = record { spread = λ f. spread-first _ _ _ _ _ f; next = n }
-
-module _ {masks : List ℕ} {states rules s : ℕ} {first before : List ℕ} (j : Judging masks states rules first before s) where
+module _ {masks : List ℕ} {tables : Tables} {rules s : ℕ} {before : List ℕ} (j : Judging masks tables rules before s) where
   -- A reached state is bad.
-  pub judging-hit : {starts bads : List Bool} → FirstMarks starts bads states first → Hit states before ≡ true
-      → holds (tabled masks starts bads states rules) ≡ false
-  unfolding tabled
-  judging-hit f e = spread-hit (j .spread f) e
+  pub judging-hit : Hit (tables .states) before ≡ true → judgeBy masks tables rules ≡ false
+  unfolding judgeBy systemBy
+  judging-hit e = spread-hit (j .spread) e
 
   -- No row is left.
-  pub judging-ends : {starts bads : List Bool} → FirstMarks starts bads states first → states ≤ s
-      → holds (tabled masks starts bads states rules) ≡ true
-  unfolding tabled
-  judging-ends f h = spread-all (j .spread f) (j .next .none h)
+  pub judging-ends : tables .states ≤ s → judgeBy masks tables rules ≡ true
+  unfolding judgeBy systemBy
+  judging-ends h = spread-all (j .spread) (j .next .none h)
 
   -- The row of state s is walked.
-  module _ (h : s < states) (unhit : Hit states before ≡ false) (few : states ≤ 128) {after : List ℕ} (w : RowWalked masks states rules s before after) where
-    pub judging-next : {t : ℕ} → NextAny (λ t. isOpen (getD after t 0)) states t → Judging masks states rules first after t
-    judging-next n = record {
-      spread = λ f. spread-next masks _ _ states rules s (j .spread f) h (j .next .passes h) unhit few w;
-      next = n;
-    }
+  module _ (h : s < tables .states) (unhit : Hit (tables .states) before ≡ false) (few : tables .states ≤ 128)
+      {after : List ℕ} (w : RowWalked masks (tables .states) rules s before after) where
+    pub judging-next : {t : ℕ} → NextAny (λ t. isOpen (getD after t 0)) (tables .states) t → Judging masks tables rules after t
+    judging-next n = record { spread = spread-next masks tables rules s (j .spread) h (j .next .passes h) unhit few w; next = n }
 
-    pub judging-less : {starts bads : List Bool} → FirstMarks starts bads states first → rowsLeft states after < rowsLeft states before
-    unfolding rowsLeft
-    judging-less f = spread-less masks _ _ states rules s (j .spread f) h (j .next .passes h) unhit few w
+    pub judging-less : rowsLeft (tables .states) after < rowsLeft (tables .states) before
+    judging-less = spread-less masks tables rules s (j .spread) h (j .next .passes h) unhit few w

@@ -12,16 +12,19 @@ use borrow.Author.Count.{below-more}
 use borrow.Author.Tests.{ltb-true, ltb-false, eqb-true, eqb-false, ne-eqb, not-true}
 use lib.Dec.{eqb, ltb}
 use lib.ListN.{length, getD, set, replicate, length-append, length-set, length-replicate, List·getD-append, List·getD-eq-default}
-use lib.Seq.{ext-getD, getD-at, getD-set-same, getD-set-other}
+use lib.Seq.{getD-at, getD-set-same, getD-set-other}
+use Rattle.sets.specs.Tabulated.{tabulate}
+use Rattle.sets.specs.Laws.Tabulated.{tabulated}
 use Rattle.systems.specs.declared.runs.Reached.{Reached}
 use Rattle.systems.specs.declared.runs.Runs.{Runs}
-use Rattle.systems.specs.Count.{count, count-le, count-none, count-more, count-one-more}
+use Rattle.systems.specs.Count.{count}
+use Rattle.systems.specs.Laws.Count.{count-le, count-none, count-more, count-one-more}
 use Rattle.systems.specs.System.{System, last}
-use Rattle.systems.specs.Walks.{last-snoc, walk-last}
+use Rattle.systems.specs.Laws.Walks.{last-snoc, walk-last}
 use Rattle.systems.specs.Search.{isMarked, tryState, tryRow, explored, search}
-use Rattle.systems.specs.SearchSteps.{isMarked-nil, isMarked-snoc, tryRow-zero, tryRow-next, explored-next}
-use Rattle.systems.specs.SearchLaws.{explored-found, explored-short, search-ended}
-use Rattle.systems.specs.Stored.{runsTo, runsIn, noRuns, withRun, Sound, Stores, marksTo, reachedOf, length-marks, getD-marks}
+use Rattle.systems.specs.Laws.SearchSteps.{isMarked-nil, isMarked-snoc, tryRow-zero, tryRow-next, explored-next}
+use Rattle.systems.specs.Laws.Search.{explored-collected, explored-short, search-ended}
+use Rattle.systems.specs.Stored.{runsTo, runsIn, withRun, Sound, Stores, reachedOf}
 
 -- ---- the run at a place
 
@@ -126,7 +129,7 @@ module _ {x : Runs} (s : Sound x) where
           getD-set-other (x .marks) t u true false (λ g. eqb-false t u e (sym g))
           ∙ sym (ap (λ b. getD (x .marks) u false || b) e ∙ or-false (getD (x .marks) u false))
 
-  pub sound-more : (parent t : ℕ) → t < 128 → getD (x .marks) t false ≡ false → (parent < 128 → parent < x .count)
+  sound-more : (parent t : ℕ) → t < 128 → getD (x .marks) t false ≡ false → (parent < 128 → parent < x .count)
       → Stores (runsIn x ++ ((getD (runsIn x) parent [] ++ (t ∷ [])) ∷ [])) (withRun x parent t)
   unfolding withRun
   sound-more parent t h unmarked within = record {
@@ -161,6 +164,10 @@ module _ {x : Runs} (s : Sound x) where
 
 -- ---- before the first mark
 
+-- Before the first run.
+unfoldable pub noRuns : Runs
+noRuns = record { marks = replicate 128 false; count = 0; order = replicate 128 0; parents = replicate 128 0 }
+
 pub getD-repeat : {A : Type 0} (n k : ℕ) (a : A) → getD (replicate n a) k a ≡ a
 getD-repeat zero k a = refl
 getD-repeat (suc n) zero a = refl
@@ -181,19 +188,19 @@ sound-none = record {
 -- ---- a row of states
 
 -- The states below t have been tried behind the run at place `parent` of q, which still stands there.
-pub record Row (next : ℕ → Bool) (parent : ℕ) (q : List (List ℕ)) (t : ℕ) (y : Runs) : Type 0 where
+pub record RowStored (next : ℕ → Bool) (parent : ℕ) (q : List (List ℕ)) (t : ℕ) (y : Runs) : Type 0 where
   pub stores : Stores (tryRow next (getD q parent []) t q) y
   pub behind : getD (runsIn y) parent [] ≡ getD q parent []
   pub within : parent < 128 → parent < y .count
 
-pub row-none : {next : ℕ → Bool} {parent : ℕ} {x : Runs} → Sound x → (parent < 128 → parent < x .count) → Row next parent (runsIn x) 0 x
+pub row-none : {next : ℕ → Bool} {parent : ℕ} {x : Runs} → Sound x → (parent < 128 → parent < x .count) → RowStored next parent (runsIn x) 0 x
 row-none {next} {parent} {x} s within = record {
   stores = record { runs = sym (tryRow-zero next (getD (runsIn x) parent []) (runsIn x)); sound = s };
   behind = refl;
   within = within;
 }
 
-pub row-start : {next : ℕ → Bool} → Row next 128 [] 0 noRuns
+pub row-start : {next : ℕ → Bool} → RowStored next 128 [] 0 noRuns
 unfolding noRuns runsIn runsTo
 row-start = row-none sound-none (λ h. absurd (omega arith))
 
@@ -210,11 +217,11 @@ next-unmarked next r (suc n) u h = go (next n && not (isMarked p n)) (next-unmar
     go true e = isMarked-snoc p (r ++ (n ∷ [])) u ∙ ap₂ _||_ e (ap (λ v. eqb v u) (last-snoc r n) ∙ ne-eqb n u (λ e. omega arith))
     go false e = e
 
-pub row-unmarked : {next : ℕ → Bool} {parent t : ℕ} {y : Runs} → Row next parent [] t y → getD (y .marks) t false ≡ false
+pub row-unmarked : {next : ℕ → Bool} {parent t : ℕ} {y : Runs} → RowStored next parent [] t y → getD (y .marks) t false ≡ false
 row-unmarked {next} {parent} {t} w =
     w .stores .sound .marked t ∙ ap (λ q. isMarked q t) (w .stores .runs) ∙ next-unmarked next (getD [] parent []) t t (omega arith)
 
-module _ {next : ℕ → Bool} {parent : ℕ} {q : List (List ℕ)} {t : ℕ} {y : Runs} (w : Row next parent q t y) where
+module _ {next : ℕ → Bool} {parent : ℕ} {q : List (List ℕ)} {t : ℕ} {y : Runs} (w : RowStored next parent q t y) where
   tested : (b : Bool) → (next t && not (getD (y .marks) t false)) ≡ b
       → tryRow next (getD q parent []) (t + 1) q ≡ cond b (runsIn y ++ ((getD (runsIn y) parent [] ++ (t ∷ [])) ∷ [])) (runsIn y)
   unfolding tryState
@@ -224,7 +231,7 @@ module _ {next : ℕ → Bool} {parent : ℕ} {q : List (List ℕ)} {t : ℕ} {y
       ∙ ap (λ c. cond c (runsIn y ++ ((getD (runsIn y) parent [] ++ (t ∷ [])) ∷ [])) (runsIn y))
       (ap (λ m. next t && not m) (sym (w .stores .sound .marked t)) ∙ e)
 
-  pub row-passed : (next t && not (getD (y .marks) t false)) ≡ false → Row next parent q (t + 1) y
+  pub row-passed : (next t && not (getD (y .marks) t false)) ≡ false → RowStored next parent q (t + 1) y
   row-passed e = record {
     stores = record { runs = sym (tested false e); sound = w .stores .sound };
     behind = w .behind;
@@ -238,7 +245,7 @@ module _ {next : ℕ → Bool} {parent : ℕ} {q : List (List ℕ)} {t : ℕ} {y
   pub row-room : t < 128 → (next t && not (getD (y .marks) t false)) ≡ true → y .count < 128
   row-room h e = sound-room (w .stores .sound) t h (unmarked e)
 
-  pub row-taken : t < 128 → (next t && not (getD (y .marks) t false)) ≡ true → Row next parent q (t + 1) (withRun y parent t)
+  pub row-taken : t < 128 → (next t && not (getD (y .marks) t false)) ≡ true → RowStored next parent q (t + 1) (withRun y parent t)
   unfolding withRun
   row-taken h e = record {
     stores = record { runs = m .runs ∙ sym (tested true e); sound = m .sound };
@@ -256,11 +263,11 @@ module _ {next : ℕ → Bool} {parent : ℕ} {q : List (List ℕ)} {t : ℕ} {y
       m = sound-more s parent t h (unmarked e) (w .within)
 
 -- While the first states of all are tried, no test of a mark is needed.
-module _ {next : ℕ → Bool} {parent t : ℕ} {y : Runs} (w : Row next parent [] t y) where
-  pub first-passed : next t ≡ false → Row next parent [] (t + 1) y
+module _ {next : ℕ → Bool} {parent t : ℕ} {y : Runs} (w : RowStored next parent [] t y) where
+  pub first-passed : next t ≡ false → RowStored next parent [] (t + 1) y
   first-passed e = row-passed w (ap (λ b. b && not (getD (y .marks) t false)) e)
 
-  pub first-taken : t < 128 → next t ≡ true → Row next parent [] (t + 1) (withRun y parent t)
+  pub first-taken : t < 128 → next t ≡ true → RowStored next parent [] (t + 1) (withRun y parent t)
   first-taken h e = row-taken w h (ap₂ (λ b m. b && not m) e (row-unmarked w))
 
 -- ---- the whole search
@@ -276,7 +283,7 @@ module _ (M : System) (i : ℕ) {x : Runs} (a : Stores (explored M i) x) where
   pub stores-state : (k : ℕ) → k < x .count → getD (x .order) k 0 < M .size
   stores-state k h =
       subst (λ s. s < M .size) (ap (λ q. last (getD q k [])) (sym (a .runs)) ∙ sound-last (a .sound) k h)
-      (walk-last (getD (explored M i) k []) (explored-found M i .runs k (omega (arith, stored-length))))
+      (walk-last (getD (explored M i) k []) (explored-collected M i .runs k (omega (arith, stored-length))))
 
   -- Where the run at place i has been tried with every state, one run more has been explored.
   pub stores-next : {y : Runs} → i < x .count
@@ -296,7 +303,7 @@ pub stored-reached : (M : System) (x : Runs) → Stores (search M) x → _≡_ {
 unfolding reachedOf
 stored-reached M x a = ap₂ (λ m n. record { marks = m; count = n }) marks (sym (ap length (sym (a .runs)) ∙ sound-length (a .sound)))
   where
-    marks : x .marks ≡ marksTo (search M) 128
+    marks : x .marks ≡ tabulate 128 (isMarked (search M))
     marks =
-        ext-getD false (x .marks) (marksTo (search M) 128) (a .sound .marks ∙ sym (length-marks (search M) 128))
-        (λ s h. a .sound .marked s ∙ ap (λ q. isMarked q s) (a .runs) ∙ sym (getD-marks (search M) 128 s (omega (arith, a .sound .marks))))
+        tabulated 128 (isMarked (search M)) false (x .marks) (a .sound .marks)
+        (λ s _. a .sound .marked s ∙ ap (λ q. isMarked q s) (a .runs))

@@ -3,7 +3,6 @@
 use Prim.Native.Nat.{ℕ, zero, suc, _+_, _-_, _≤_, _<_}
 use mathlib.Core.Path.{_≡_, refl, sym, ap, _∙_}
 use mathlib.Core.Logic.{⊎-elim}
-use mathlib.Core.Bool.{Bool, true, false}
 use mathlib.Core.List.{List, [], _∷_, _++_}
 use mathlib.Mathlib.Data.Bool.Basic.{dichotomy}
 use native.Mathlib.Nat.{eq-or-lt-of-le}
@@ -14,12 +13,12 @@ use lib.ListN.{length, getD, set, replicate, length-append, length-set, length-r
 use lib.Seq.{ext-getD, getD-at, getD-set-same, getD-set-other}
 use Rattle.systems.specs.declared.runs.Runs.{Runs}
 use Rattle.systems.specs.declared.trace.Trace.{Trace}
-use Rattle.systems.specs.Least.{least, IsLeast, least-is-least, least-same}
+use Rattle.systems.specs.Least.{least}
+use Rattle.systems.specs.Laws.Least.{least-same}
 use Rattle.systems.specs.System.{System, last}
 use Rattle.systems.specs.Verdict.{traceOf}
-use Rattle.systems.specs.Search.{search, firstBad}
-use Rattle.systems.specs.SearchSteps.{firstBad-at, firstBad-none}
-use Rattle.systems.specs.SearchLaws.{search-trace}
+use Rattle.systems.specs.Search.{search}
+use Rattle.systems.specs.Laws.Search.{search-trace}
 use Rattle.systems.specs.Stored.{runsIn, Sound, Stores}
 use Rattle.systems.specs.Traced.{traceWith}
 use Rattle.systems.proofs.Stored.{getD-repeat, sound-few, sound-length, sound-run, sound-last}
@@ -105,28 +104,9 @@ writes-all {l} {left} {n} {states} w none short = ap (λ z. record { length = le
 
 -- ---- the first run to a bad state
 
-first-run : (M : System) (q : List (List ℕ)) → firstBad M q ≡ getD q (least (length q) (λ k. M .bad (last (getD q k [])))) []
-first-run M q = ⊎-elim none some (dichotomy (ltb j (length q)))
-  where
-    test : ℕ → Bool
-    test k = M .bad (last (getD q k []))
-
-    j : ℕ
-    j = least (length q) test
-
-    is : IsLeast (length q) test j
-    is = least-is-least (length q) test
-
-    some : ltb j (length q) ≡ true → firstBad M q ≡ getD q j []
-    some e = let h : j < length q = ltb-true j (length q) e in firstBad-at M q j h (is .passes h) (is .before)
-
-    none : ltb j (length q) ≡ false → firstBad M q ≡ getD q j []
-    none e =
-        let h : length q ≤ j = ltb-false j (length q) e in
-        firstBad-none M q (λ k g. is .before k (omega arith)) ∙ sym (List·getD-eq-default q [] h)
-
 pub stored-trace : (M : System) {x : Runs} → Stores (search M) x
     → getD (runsIn x) (least (x .count) (λ k. M .bad (getD (x .order) k 0))) [] ≡ traceOf M
 stored-trace M {x} a =
     ap (λ j. getD (runsIn x) j []) (least-same (sym (sound-length (a .sound))) (λ k h. ap (M .bad) (sym (sound-last (a .sound) k h))))
-    ∙ sym (first-run M (runsIn x)) ∙ ap (firstBad M) (a .runs) ∙ search-trace M
+    ∙ ap (λ q. getD q (least (length q) (λ k. M .bad (last (getD q k [])))) []) (a .runs)
+    ∙ search-trace M

@@ -2,13 +2,14 @@
 -- What the code that walks the rows ensures of them. Assumes nothing: these are definitions.
 use Prim.Native.Nat.{ℕ, _+_, _*_, _≤_, _<_}
 use mathlib.Core.Path.{_≡_}
-use mathlib.Core.Bool.{Bool, true, false}
+use mathlib.Core.Bool.{Bool, false}
 use mathlib.Core.List.{List}
 use mir.Val.{boolByte}
 use lib.Bits.{bitAnd, bitOr}
 use lib.Dec.{eqb}
 use lib.ListN.{length, getD, set}
-use Rattle.systems.specs.Tabled.{marked, stepIn}
+use Rattle.systems.specs.declared.tables.Tables.{Tables}
+use Rattle.systems.specs.ByTables.{markAt, stepBy}
 
 -- The mark of a state.
 unfoldable pub markOf : (reached walked bad : Bool) → ℕ
@@ -23,30 +24,24 @@ unfoldable pub isOpen : ℕ → Bool
 isOpen m = eqb (bitAnd m 3) 1
 
 -- The start states are reached.
-pub record FirstMarks (starts bads : List Bool) (states : ℕ) (marks : List ℕ) : Type 0 where
+pub record FirstMarks (t : Tables) (marks : List ℕ) : Type 0 where
   pub size : length marks ≡ 128
-  pub at : (t : ℕ) → t < states → getD marks t 0 ≡ markOf (marked starts t) false (marked bads t)
+  pub at : (s : ℕ) → s < t .states → getD marks s 0 ≡ markOf (markAt (t .start) s) false (markAt (t .bad) s)
 
 -- Marks of states with a step of the set are added, by a row of masks.
 pub record RowMarked (row : List ℕ) (rules : ℕ) (before after : List ℕ) : Type 0 where
   pub size : length after ≡ length before
   pub at : (t : ℕ) → t < length row → getD after t 0 ≡ bitOr (getD before t 0) (boolByte (eqb (bitAnd (getD row t 0) rules) rules))
 
+-- The row of state s is a part of the masks, and there is a mark for each state of it.
+pub record Walkable (masks : List ℕ) (states s : ℕ) (marks : List ℕ) : Type 0 where
+  pub few : states ≤ 128
+  pub room : 128 * states ≤ length masks
+  pub state : s < states
+  pub marked : length marks ≡ 128
+
 -- The row of state s has been walked.
 pub record RowWalked (masks : List ℕ) (states rules s : ℕ) (before after : List ℕ) : Type 0 where
   pub size : length after ≡ length before
   pub at : (t : ℕ) → t < states
-      → getD after t 0 ≡ bitOr (getD (set before s (bitOr (getD before s 0) 2)) t 0) (boolByte (stepIn masks rules s t))
-
--- r is the first number from s on that passes, or n.
-pub record NextFrom (p : ℕ → Bool) (s n r : ℕ) : Type 0 where
-  pub within : r ≤ n
-  pub after : s ≤ n → s ≤ r
-  pub passes : r < n → p r ≡ true
-  pub passed : (k : ℕ) → s ≤ k → k < r → p k ≡ false
-
--- r is a number that passes, or n if none does.
-pub record NextAny (p : ℕ → Bool) (n r : ℕ) : Type 0 where
-  pub within : r ≤ n
-  pub passes : r < n → p r ≡ true
-  pub none : n ≤ r → (k : ℕ) → k < n → p k ≡ false
+      → getD after t 0 ≡ bitOr (getD (set before s (bitOr (getD before s 0) 2)) t 0) (boolByte (stepBy masks rules s t))

@@ -37,8 +37,3 @@ explored M (suc i) =
 unfoldable pub search : System → List (List ℕ)
 unfolding explored
 search M = explored M (M .size)
-
--- The first run found that ends in a bad state; none where there is no such run.
-unfoldable pub firstBad : System → List (List ℕ) → List ℕ
-firstBad M [] = []
-firstBad M (r ∷ q) = cond (M .bad (last r)) r (firstBad M q)

@@ -50,7 +50,7 @@ pub record Reached (M : System) (s : ℕ) : Type 0 where
 pub record Holds (M : System) : Type 0 where
   pub good : (s : ℕ) → Reached M s → M .bad s ≡ false
 
--- It holds to depth k: no run of at most k steps ends in a bad state.
+-- It holds to depth k: no run of at most k steps ends in a bad state. No code uses it yet; it waits for the request of a depth.
 pub record HoldsTo (M : System) (k : ℕ) : Type 0 where
   pub good : (l : List ℕ) → Run M l → length l ≤ suc k → M .bad (last l) ≡ false
 

@@ -33,7 +33,7 @@ unfoldable pub holdsBelow : System → ℕ → Bool
 unfolding depthBelow
 holdsBelow M n = leb n (depthBelow M n)
 
--- No run of at most k steps ends in a bad state.
+-- No run of at most k steps ends in a bad state. No code uses it yet; it waits for the request of a depth.
 unfoldable pub holdsTo : System → ℕ → Bool
 unfolding holdsBelow
 holdsTo M k = holdsBelow M (suc k)

@@ -1,7 +1,7 @@
-// Transition systems over states that are numbers: runs, reached states, verdict and trace.
-pub mod judging;
-mod marking;
+// Transition systems over states that are numbers: runs, reached states, verdict and trace. The steps of a rule set are read off the masks of
+// the pairs of states; no text is known here.
+pub mod breadth_first;
 pub mod runs;
-pub mod search;
 pub mod tables;
 pub mod trace;
+pub mod verdict;

@@ -1,7 +1,6 @@
 // How a search holds what it has found.
 ghost use mathlib.Core.Path.{_≡_};
-ghost use Prim.Native.Nat.{_<_};
-ghost use Rattle.systems.specs.Stored.{withRun};
+ghost use Rattle.systems.specs.Stored.{Markable, withRun};
 
 // The reached states as document 01 holds them: a mark for each, and how many marks are set.
 pub struct Reached {
@@ -20,9 +19,7 @@ pub(crate) struct Runs {
 
 // State t is marked, behind the run at place `parent`.
 pub(crate) fn mark(x: Runs, parent: usize, t: usize) -> Runs
-    requires { ⌜ x .count < 128 ⌝ }
-    requires { ⌜ t < 128 ⌝ }
-    requires { ⌜ parent < 256 ⌝ }
+    requires { ⌜ Markable x parent t ⌝ }
     ensures { λ r. ⌜ r ≡ withRun x parent t ⌝ }
 {
     let n = x.count;

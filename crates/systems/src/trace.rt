@@ -3,10 +3,11 @@ ghost use mathlib.Core.Path.{_≡_};
 ghost use mathlib.Core.List.{[]};
 ghost use lib.ListN.{length, getD};
 ghost use Rattle.systems.specs.Least.{least};
-ghost use Rattle.systems.specs.Tabled.{marked, Fits, tabled};
+ghost use Rattle.systems.specs.ByTables.{markAt, HasRoom, systemBy};
 ghost use Rattle.systems.specs.Stored.{runsIn, Sound};
-ghost use Rattle.systems.specs.Traced.{traceWith, traceIn};
+ghost use Rattle.systems.specs.Traced.{traceWith, traceArray};
 use crate::runs::Runs;
+use crate::tables::Tables;
 
 // So many states; what follows them is 0. A set that holds has none.
 pub struct Trace {
@@ -15,14 +16,14 @@ pub struct Trace {
 }
 
 // The place of the first run to a bad state; the number of runs if there is none.
-fn first_bad(bads: [bool; 128], x: Runs) -> usize
+fn first_bad(t: Tables, x: Runs) -> usize
     requires { ⌜ Sound x ⌝ }
-    ensures { λ r. ⌜ r ≡ least (x .count) (λ k. marked bads (getD (x .order) k 0)) ⌝ }
+    ensures { λ r. ⌜ r ≡ least (x .count) (λ k. markAt (t .bad) (getD (x .order) k 0)) ⌝ }
 {
     let mut j = 0;
     while j < x.count {
         let s = x.order[j] as usize;
-        if bads[s] {
+        if t.bad[s] {
             return j;
         }
         j += 1;
@@ -61,16 +62,11 @@ fn run_at(x: Runs, j: usize) -> Trace
     Trace { length, states }
 }
 
-pub(crate) fn trace_of(
-    masks: &[u16],
-    starts: [bool; 128],
-    bads: [bool; 128],
-    states: usize,
-    set: u16,
-) -> Trace
-    requires { ⌜ Fits (now masks) states ⌝ }
-    ensures { λ r. ⌜ r ≡ traceIn (tabled (now (masks .entry)) starts bads states set) ⌝ }
+// The trace of a set by the tables; a set that holds has none.
+pub fn trace_of(masks: &[u16], t: Tables, set: u16) -> Trace
+    requires { ⌜ HasRoom (now masks) t ⌝ }
+    ensures { λ r. ⌜ r ≡ traceArray (systemBy (now (masks .entry)) t set) ⌝ }
 {
-    let x = crate::search::explore(masks, starts, states, set);
-    run_at(x, first_bad(bads, x))
+    let x = crate::breadth_first::explore(masks, t, set);
+    run_at(x, first_bad(t, x))
 }

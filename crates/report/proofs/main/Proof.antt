@@ -8,7 +8,8 @@ use borrow.Author.Needs.{needs}
 use lib.ListN.{length, length-replicate}
 use lib.Seq.{length-take-le}
 use Rattle.sets.specs.Lists.{overwritten}
-use Rattle.reports.specs.Page.{window, window-fits, page-length}
+use Rattle.reports.specs.Page.{window}
+use Rattle.reports.specs.Laws.Page.{window-fits, page-length}
 use Rattle.report.proofs.main.Statement.{statement}
 use Rattle.report.proofs.main.Tie as tie
 

@@ -1,9 +1,10 @@
 -- `codremif::host::codremif_cores` meets its contract: the answer is packed, and its parts fit their places for every text.
 -- Assumes nothing.
-use mathlib.Core.Path.{_≡_, ap, _∙_}
+use mathlib.Core.Path.{ap, _∙_}
 use borrow.Author.Needs.{needs}
-use Rattle.codremif.specs.Host.{cores-reads}
+use Rattle.cores.specs.declared.which.WhichList.the-variants.{Cores}
 use Rattle.codremif.specs.Packing.{listParts, packed}
+use Rattle.codremif.specs.Laws.Host.{list-reads}
 use Rattle.codremif.proofs.host.codremif_cores.Statement.{statement}
 use Rattle.codremif.proofs.host.codremif_cores.Tie as tie
 
@@ -14,6 +15,8 @@ codremif-cores-spec =
     (λ c κs. search needs)
     (λ c κs.
     let a = c .before .before .before .before .before .before .args in
-    rw (c .before .before .list-cores .ensures .0) (cores-reads (a .text .now) (a .sets .now) .range))
+    rw (c .before .before .list .ensures .0) (list-reads Cores (a .text .now) (a .sets .now) .range))
     (λ c. search needs)
-    (λ c. (c .pack-list .ensures ∙ ap (λ a. packed (listParts a)) (c .before .before .before .list-cores .ensures .0), c .before .before .before .list-cores .ensures .1)))
+    (λ c.
+    let l = c .before .before .before .list .ensures in
+    (c .pack-list .ensures ∙ ap (λ a. packed (listParts a)) (l .0), l .1)))

@@ -1,9 +1,9 @@
 -- `codremif::host::codremif_judge` meets its contract: the answer is packed, and its parts fit their places for every text.
 -- Assumes nothing.
-use mathlib.Core.Path.{_≡_, ap, _∙_}
+use mathlib.Core.Path.{ap, _∙_}
 use borrow.Author.Needs.{needs}
-use Rattle.codremif.specs.Host.{judge-reads}
-use Rattle.codremif.specs.Packing.{InRange, judgeParts, packed}
+use Rattle.codremif.specs.Laws.Host.{judge-reads}
+use Rattle.codremif.specs.Packing.{judgeParts, packed}
 use Rattle.codremif.proofs.host.codremif_judge.Statement.{statement}
 use Rattle.codremif.proofs.host.codremif_judge.Tie as tie
 

@@ -1,8 +1,8 @@
 -- `codremif::host::codremif_must` meets its contract: the answer is packed, and its parts fit their places for every text.
 -- Assumes nothing.
-use mathlib.Core.Path.{_≡_, ap, _∙_}
+use mathlib.Core.Path.{ap, _∙_}
 use borrow.Author.Needs.{needs}
-use Rattle.codremif.specs.Host.{must-reads}
+use Rattle.codremif.specs.Laws.Host.{must-reads}
 use Rattle.codremif.specs.Packing.{mustParts, packed}
 use Rattle.codremif.proofs.host.codremif_must.Statement.{statement}
 use Rattle.codremif.proofs.host.codremif_must.Tie as tie

@@ -1,7 +1,7 @@
 -- `codremif::judging::judge` meets its contract: a refused text is answered by its number and line, and an accepted one is judged as it is read.
 -- Assumes nothing.
 use borrow.Author.Needs.{needs}
-use Rattle.codremif.specs.AnswerLaws.{is-read, is-refused}
+use Rattle.codremif.specs.Laws.Answers.{is-read, is-refused}
 use Rattle.codremif.proofs.JudgeFacts.{by-text}
 use Rattle.codremif.proofs.judging.judge.Statement.{statement}
 use Rattle.codremif.proofs.judging.judge.Tie as tie

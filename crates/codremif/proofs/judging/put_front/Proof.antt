@@ -55,4 +55,4 @@ put-front-spec =
     (λ c.
     let a = c .before .before .args in
     let end : c .before .loop .i ≡ a .n = omega arith in
-    c .before .loop .inv .1 ∙ ap (paste (a .lent .now) 0 (a .t1)) end ∙ pasted (a .lent .now) (a .t1) (a .n) (c .before .before .pre .1 .0)))
+    c .before .loop .inv .1 ∙ ap (paste (a .lent .now) 0 (a .t1)) end ∙ pasted (a .lent .now) (a .t1) (a .n) (c .before .before .pre .known)))

@@ -1,6 +1,5 @@
 -- `codremif::packing::pack` meets its contract: the sum is that of `packed`, by the verdict.
 -- Assumes nothing.
-use mathlib.Core.Path.{sym}
 use native.Mathlib.Omega.{arith}
 use borrow.Author.Needs.{needs}
 use Rattle.codremif.specs.Packing.{packed}

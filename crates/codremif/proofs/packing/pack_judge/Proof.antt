@@ -2,7 +2,7 @@
 -- Assumes nothing.
 use mathlib.Core.Path.{sym, ap, _∙_}
 use borrow.Author.Needs.{needs}
-use Rattle.codremif.specs.Packing.{InRange, judgeParts, packed}
+use Rattle.codremif.specs.Packing.{judgeParts, packed}
 use Rattle.codremif.proofs.packing.pack_judge.Statement.{statement}
 use Rattle.codremif.proofs.packing.pack_judge.Tie as tie
 

@@ -1,11 +1,13 @@
 -- `codremif::together::ask_all` meets its contract: each call gives what it promises, and for an accepted text that is demand 3.
 -- Assumes nothing.
-use Rattle.codremif.specs.Demand3.{AsCalled, as-called}
 use borrow.Author.Needs.{needs}
+use Rattle.codremif.specs.Demand3.{AsCalled, asked}
+use Rattle.codremif.specs.Laws.Demand3.{calls-meet-demand3}
 use Rattle.codremif.proofs.together.ask_all.Statement.{statement}
 use Rattle.codremif.proofs.together.ask_all.Tie as tie
 
 pub ask-all-spec : {M : Type 1} → statement M
+unfolding asked
 ask-all-spec =
     tie.close
     (tie.spec
@@ -15,12 +17,14 @@ ask-all-spec =
     (λ c. search needs)
     (λ c. search needs)
     (λ c.
-    let a = c .before .before .before .before .before .before .before .before .before .before .before .before .args in
-    let called : AsCalled (a .text .now) (a .cores .now) (a .cuts .now) (c .before .before .before .before .before .before .before .list-cores .result) (c .before .before .before .before .before .before .before .list-cores .last .1 .0) (c .before .before .before .list-cuts .result) (c .before .before .before .list-cuts .last .1 .0) (c .give-must .result) = record {
-      cores = c .before .before .before .before .before .before .before .list-cores .ensures .0;
-      coresWritten = c .before .before .before .before .before .before .before .list-cores .ensures .1;
-      cuts = c .before .before .before .list-cuts .ensures .0;
-      cutsWritten = c .before .before .before .list-cuts .ensures .1;
-      mustRules = c .give-must .ensures;
+    let b = c .before .before .before in
+    let a = b .before .before .before .before in
+    let s = a .before .before .before .before .before in
+    let called : AsCalled (s .args .text .now) (asked _ (s .args .cores .now) (a .list .last .1 .1 .0) (s .args .cuts .now) (b .list2 .last .1 .1 .0)) = record {
+      cores = a .list .ensures .0;
+      coresWritten = a .list .ensures .1;
+      cuts = b .list2 .ensures .0;
+      cutsWritten = b .list2 .ensures .1;
+      must = c .give-must .ensures;
     } in
-    (called, λ accepted. as-called (a .text .now) accepted called)))
+    (called, λ accepted. calls-meet-demand3 (s .args .text .now) accepted called)))

@@ -9,10 +9,11 @@ use borrow.Author.Count.{below-more}
 use native.Mathlib.Decide.{decLt}
 use lib.ListN.{length}
 use lib.Pow.{pow-mono}
-use Rattle.sets.specs.Cores.{isCore, isCut}
-use Rattle.systems.specs.Marks.{NextFrom}
-use Rattle.cores.specs.Tables.{marked, Marks}
-use Rattle.cores.specs.Seeds.{judgedBy, Going, Seed, Settled, all-unknown, none-unknown}
+use Rattle.systems.specs.Next.{NextFrom}
+use Rattle.systems.specs.ByTables.{judgeBy}
+use Rattle.cores.specs.Marks.{marked}
+use Rattle.cores.specs.Seeds.{Going, Seed, Settled, AllFound}
+use Rattle.cores.specs.Laws.Seeds.{all-unknown, none-unknown}
 use Rattle.cores.proofs.seeds.find.Statement.{statement}
 use Rattle.cores.proofs.seeds.find.Tie as tie
 
@@ -29,9 +30,9 @@ record Kept (unknown₀ cores₀ cuts₀ unknown cores cuts : List ℕ) : Type 0
   inCores : length cores ≡ length cores₀
   inCuts : length cuts ≡ length cuts₀
 
-start : (R : ℕ) (h : ℕ → Bool) (end : ℕ) (unknown cores cuts : List ℕ) (s : ℕ) → end ≡ 2 ^ R → Going R h unknown cores cuts → NextFrom (marked unknown) 0 end s
+begun : (R : ℕ) (h : ℕ → Bool) (end : ℕ) (unknown cores cuts : List ℕ) (s : ℕ) → end ≡ 2 ^ R → Going R h unknown cores cuts → NextFrom (marked unknown) 0 end s
     → Finding R h end unknown cores cuts s
-start R h end unknown cores cuts s e g f =
+begun R h end unknown cores cuts s e g f =
     record { count = e; going = g; within = f .within; itself = f .passes; first = λ T l. f .passed T (omega arith) l }
 
 module _ (R : ℕ) (h : ℕ → Bool) (end : ℕ) (unknown cores cuts : List ℕ) (s : ℕ) (f : Finding R h end unknown cores cuts s) where
@@ -53,15 +54,29 @@ module _ (R : ℕ) (h : ℕ → Bool) (end : ℕ) (unknown cores cuts : List ℕ
       at T b (yes x) = known T x
       at T b (no x) = n .passed T (omega arith) b
 
-  all : end ≤ s → Marks R (isCore h) cores × Marks R (isCut R h) cuts
+  all : end ≤ s → AllFound R h cores cuts
   all l = none-unknown R h unknown cores cuts (f .going) (λ S b. f .first S (omega (arith, f .count)))
 
 abbrev Inv-loop : tie.InvT-loop
-Inv-loop masks starts bads states rules unknown₀ cores₀ cuts₀ end s₀ unknown cores cuts s =
-    Kept unknown₀ cores₀ cuts₀ unknown cores cuts × Finding rules (judgedBy masks starts bads states) end unknown cores cuts s
+Inv-loop masks t unknown₀ cores₀ cuts₀ end s₀ unknown cores cuts s =
+    Kept unknown₀ cores₀ cuts₀ unknown cores cuts × Finding (t .rules) (judgeBy masks t) end unknown cores cuts s
 
 abbrev μ-loop : tie.MeasureT-loop
-μ-loop masks starts bads states rules unknown₀ cores₀ cuts₀ end s₀ unknown cores cuts s = end - s
+μ-loop masks t unknown₀ cores₀ cuts₀ end s₀ unknown cores cuts s = end - s
+
+-- the function's start, seen from where the sets were counted and from the loop
+abbrev counted : tie.After-set-count Inv-loop μ-loop → tie.Start Inv-loop μ-loop
+counted p = p .before .before .before .before .before
+
+abbrev start : tie.At-loop Inv-loop μ-loop → tie.Start Inv-loop μ-loop
+start p = counted (p .before .before .before)
+
+-- a turn of the loop, seen from its call of `settle` and from after it
+abbrev turn : tie.After-settle Inv-loop μ-loop → tie.In-loop Inv-loop μ-loop
+turn p = p .before .before .before .before
+
+abbrev settled : tie.After-next-marked-arg2 Inv-loop μ-loop → tie.After-settle Inv-loop μ-loop
+settled p = p .before .before .before .before .before .before .before
 
 pub find-spec : {M : Type 1} → statement M
 find-spec =
@@ -69,23 +84,25 @@ find-spec =
     (tie.spec
     Inv-loop
     μ-loop
-    (λ c κs. c .before .before .before .before .pre .1 .1 .0 .few)
-    (λ c κs. let u = c .before .before .before .before .before .before .pre .1 .1 .0 in (omega (arith, c .before .set-count .ensures, pow-mono (u .few)), omega (arith, c .before .set-count .ensures, u .room)))
+    (λ c κs. c .before .before .before .before .pre .judges .few)
+    (λ c κs. let u = counted (c .before) .pre .allUnknown in (omega (arith, c .before .set-count .ensures, pow-mono (u .few)), omega (arith, c .before .set-count .ensures, u .room)))
     (λ c.
-    let p = c .before .before .before .before .before .before .before .pre .1 .1 in
-    (record { inUnknown = refl; inCores = refl; inCuts = refl }, start _ _ _ _ _ _ _ (c .before .before .set-count .ensures) (all-unknown _ _ _ _ _ (p .0) (p .1 .0) (p .1 .1)) (c .next-marked .ensures)))
-    (λ c. omega (arith, c .loop-test .taken, small _ _ _ _ _ _ _ (c .before .loop .inv .1)))
+    let n = c .before .before in
+    let p = counted n .pre in
+    (record { inUnknown = refl; inCores = refl; inCuts = refl }, begun _ _ _ _ _ _ _ (n .set-count .ensures) (all-unknown _ _ _ _ _ (p .allUnknown) (p .noCores) (p .noCuts)) (c .next-marked .ensures)))
+    (λ c. let l = c .before .before .before in omega (arith, l .loop-test .taken, small _ _ _ _ _ _ _ (l .before .loop .inv .1)))
     (λ c κs.
-    let p = c .before .before .before .before .before .before .before .before .before .before .before .before .pre in
-    let f = c .before .before .before .before .loop .inv .1 in
-    (p .0, (p .1 .0, (f .going, seed _ _ _ _ _ _ _ f (c .before .before .before .loop-test .taken)))))
-    (λ c. omega (arith, c .before .before .before .before .before .before .before .before .before .before .before .loop-test .taken, small _ _ _ _ _ _ _ (c .before .before .before .before .before .before .before .before .before .before .before .before .loop .inv .1)))
-    (λ c κs. let f = c .before .before .before .before .before .before .before .before .before .before .before .before .loop .inv .1 in (small _ _ _ _ _ _ _ f, omega (arith, f .count, c .before .before .before .before .before .before .before .settle .ensures .going .roomUnknown)))
-    (λ c. omega (arith, c .before .before .before .before .before .before .before .before .before .before .before .before .loop-test .taken, c .next-marked2 .ensures .after (omega (arith, c .before .before .before .before .before .before .before .before .before .before .before .before .loop-test .taken))))
+    let l = c .before .before .before in
+    let f = l .before .loop .inv .1 in
+    record { judges = start (l .before) .pre .judges; going = f .going; seed = seed _ _ _ _ _ _ _ f (l .loop-test .taken) })
+    (λ c. let l = turn (settled c) in omega (arith, l .loop-test .taken, small _ _ _ _ _ _ _ (l .before .loop .inv .1)))
+    (λ c κs. let f = turn (settled c) .before .loop .inv .1 in (small _ _ _ _ _ _ _ f, omega (arith, f .count, settled c .settle .ensures .going .roomUnknown)))
+    (λ c. let l = turn (settled (c .before)) in omega (arith, l .loop-test .taken, c .next-marked2 .ensures .after (omega (arith, l .loop-test .taken))))
     (λ c.
-    let i = c .before .before .before .before .before .before .before .before .before .before .before .before .before .loop .inv in (
+    let l = turn (settled (c .before)) in
+    let i = l .before .loop .inv in (
       record { inUnknown = c .before .before .before .before .before .before .before .unknown .given ∙ i .0 .inUnknown; inCores = c .before .before .before .before .before .cores .given ∙ i .0 .inCores; inCuts = c .before .before .before .cuts .given ∙ i .0 .inCuts },
-      next _ _ _ _ _ _ _ (i .1) (c .before .before .before .before .before .before .before .before .before .before .before .before .loop-test .taken) _ _ _ _ (c .before .before .before .before .before .before .before .before .settle .ensures) (c .next-marked2 .ensures),
+      next _ _ _ _ _ _ _ (i .1) (l .loop-test .taken) _ _ _ _ (settled (c .before) .settle .ensures) (c .next-marked2 .ensures),
     ))
     (λ c. c .before .loop .inv .0 .inUnknown)
     (λ c. c .before .loop .inv .0 .inCores)

@@ -6,12 +6,14 @@ use mathlib.Core.Logic.{_↔_, ⊎-elim}
 use mathlib.Core.Bool.{Bool, true, false, true≢false}
 use native.Mathlib.Omega.{arith}
 use native.Mathlib.Decide.{ℕ-discrete}
-use Rattle.sets.specs.Bit.{has, full, has-full}
-use Rattle.sets.specs.Sets.{without, has-without}
+use Rattle.sets.specs.Bit.{has, full}
+use Rattle.sets.specs.Laws.Bit.{has-full}
+use Rattle.sets.specs.Sets.{without}
+use Rattle.sets.specs.Laws.Sets.{has-without}
 use Rattle.sets.specs.Cores.{Monotone}
 use Rattle.sets.specs.Lists.{mustOf}
-use Rattle.sets.specs.MustRules.{must-needed}
-use Rattle.cores.specs.Seeds.{judgedBy}
+use Rattle.systems.specs.ByTables.{judgeBy}
+use Rattle.sets.specs.Laws.MustRules.{must-needed}
 use Rattle.cores.proofs.seeds.needed.Statement.{statement}
 use Rattle.cores.proofs.seeds.needed.Tie as tie
 
@@ -66,26 +68,28 @@ module _ (R : ℕ) (h : ℕ → Bool) where
         ))
 
 abbrev Inv-loop : tie.InvT-loop
-Inv-loop masks starts bads states rules all must₀ i₀ must i = Left rules (judgedBy masks starts bads states) i (must .0)
+Inv-loop masks t all must₀ i₀ must i = Left (t .rules) (judgeBy masks t) i (must .0)
 
 abbrev μ-loop : tie.MeasureT-loop
-μ-loop masks starts bads states rules all must₀ i₀ must i = rules - i
+μ-loop masks t all must₀ i₀ must i = t .rules - i
+
+-- where a rule is tried, and the function's start
+abbrev start : tie.Then1 Inv-loop μ-loop → tie.Start Inv-loop μ-loop
+start c = c .before .before .before .before
 
 loop-again : tie.Need-loop-again Inv-loop μ-loop
 loop-again c =
-    let l = c .before .before .before .before .before in
-    let a = l .before .before .args in
-    let h = judgedBy (a .masks .now) (a .starts) (a .bads) (a .states) in
-    let all = l .before .before .pre .1 .1 .1 .0 in
+    let l = c .before .before .before .before in
+    let a = start l .args in
+    let h = judgeBy (a .masks .now) (a .t) in
+    let all = start l .pre .itself in
+    let i = l .before .before .loop in
     let less = c .before .before .before .without .ensures in
-    let told = c .before .judged .ensures in
+    let told = c .before .is-held .ensures in
     ⊎-elim
-    (λ w.
-    rw (w .1)
-    (spared _ _ (l .loop .i) (l .loop .inv) (c .before .before .without2 .ensures)
-    (verdict _ h (l .loop .i) all less told (w .0 .taken))))
-    (λ w. rw (w .1) (kept _ _ (l .loop .i) (l .loop .inv) (verdict _ h (l .loop .i) all less told (w .0 .left))))
-    (c .if1 .came)
+    (λ w. rw (w .1) (spared _ _ (i .i) (i .inv) (c .before .before .without2 .ensures) (verdict _ h (i .i) all less told (w .0 .taken))))
+    (λ w. rw (w .1) (kept _ _ (i .i) (i .inv) (verdict _ h (i .i) all less told (w .0 .left))))
+    (c .if2 .came)
 
 pub needed-spec : {M : Type 1} → statement M
 needed-spec =
@@ -93,13 +97,13 @@ needed-spec =
     (tie.spec
     Inv-loop
     μ-loop
-    (λ c. all-left _ _ (c .before .pre .1 .1 .1 .0))
-    (λ c κs. omega (arith, c .before .before .before .pre .1 .0))
-    (λ c κs. omega (arith, c .before .before .before .before .pre .1 .0))
-    (λ c κs. c .before .before .before .before .before .pre .0)
+    (λ c. all-left _ _ (c .before .pre .itself))
+    (λ c κs. omega (arith, c .if1 .taken, start c .pre .judges .few))
+    (λ c κs. omega (arith, c .before .if1 .taken, start (c .before) .pre .judges .few))
+    (λ c κs. start (c .before .before) .pre .judges .room)
     (λ c. omega arith)
     (λ c. omega arith)
     loop-again
     (λ c.
-    let p = c .before .before .before .pre .1 .1 in
-    is-must _ _ _ (c .before .loop .inv) (p .0) (p .1 .1) (c .loop-test .left)))
+    let p = c .before .before .before .before .pre in
+    is-must _ _ _ (c .before .before .loop .inv) (p .judges .more) (p .holds) (c .if1 .left)))

@@ -5,8 +5,8 @@ use mathlib.Core.Bool.{Bool, true, false, not, _&&_, and-false}
 use borrow.Author.Needs.{needs}
 use borrow.Author.Tests.{not-true, not-false}
 use Rattle.sets.specs.Sets.{with}
-use Rattle.cores.specs.Tables.{marked}
-use Rattle.cores.specs.Seeds.{judgedBy}
+use Rattle.systems.specs.ByTables.{judgeBy}
+use Rattle.cores.specs.Marks.{marked}
 use Rattle.cores.proofs.seeds.stays_broken.Statement.{statement}
 use Rattle.cores.proofs.seeds.stays_broken.Tie as tie
 
@@ -29,12 +29,12 @@ stays-broken-spec =
     (λ c κs. search needs)
     (λ c.
     let a = c .before .before .before .before .before .args in
-    has-rule (marked (a .unknown .now)) (judgedBy (a .masks .now) (a .starts) (a .bads) (a .states)) (with (a .set .0) (a .rule)) _ (c .before .has .ensures) (c .if1 .taken))
+    has-rule (marked (a .unknown .now)) (judgeBy (a .masks .now) (a .t)) (with (a .set .0) (a .rule)) _ (c .before .has .ensures) (c .if1 .taken))
     (λ c κs. search needs)
     (λ c.
     let a = c .before .before .before .before .before .before .before .args in
-    not-marked (marked (a .unknown .now)) (judgedBy (a .masks .now) (a .starts) (a .bads) (a .states)) (with (a .set .0) (a .rule)) _ (c .before .before .before .has .ensures) (c .before .before .before .before .with .ensures) (c .before .is-marked .ensures) (not-true _ (c .if2 .taken)))
+    not-marked (marked (a .unknown .now)) (judgeBy (a .masks .now) (a .t)) (with (a .set .0) (a .rule)) _ (c .before .before .before .has .ensures) (c .before .before .before .before .with .ensures) (c .before .is-marked .ensures) (not-true _ (c .if2 .taken)))
     (λ c κs. search needs)
     (λ c.
     let a = c .before .before .before .before .before .before .before .before .args in
-    is-judged (marked (a .unknown .now)) (judgedBy (a .masks .now) (a .starts) (a .bads) (a .states)) (with (a .set .0) (a .rule)) _ (c .before .before .before .before .has .ensures) (c .before .before .before .before .before .with .ensures) (c .before .before .before .if1 .left) (c .before .before .is-marked .ensures) (not-false _ (c .before .if2 .left)) (c .judged .ensures)))
+    is-judged (marked (a .unknown .now)) (judgeBy (a .masks .now) (a .t)) (with (a .set .0) (a .rule)) _ (c .before .before .before .before .has .ensures) (c .before .before .before .before .before .with .ensures) (c .before .before .before .if1 .left) (c .before .before .is-marked .ensures) (not-false _ (c .before .if2 .left)) (c .is-held .ensures)))

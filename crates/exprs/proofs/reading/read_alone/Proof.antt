@@ -1,7 +1,7 @@
 -- `exprs::reading::read_alone` meets its contract: each arm computes.
 -- Assumes nothing.
 use borrow.Author.Needs.{needs}
-use Rattle.exprs.specs.Expr.{written, size}
+use Rattle.exprs.specs.Expr.{size}
 use Rattle.exprs.specs.Reading.{before, first}
 use Rattle.exprs.specs.Answers.{usedBy}
 use Rattle.exprs.proofs.reading.read_alone.Statement.{statement}

@@ -1,6 +1,6 @@
 -- `exprs::token::classify` meets its contract: a byte of its own computes, and any other is told by the two ranges of letters.
 -- Assumes nothing.
-use Prim.Native.Nat.{ℕ, _-_, _≤_, _<_}
+use Prim.Native.Nat.{ℕ, _-_}
 use mathlib.Core.Path.{_≡_, sym, ap}
 use mathlib.Core.Bool.{cond, _&&_}
 use lib.Dec.{leb}

@@ -1,22 +1,23 @@
 -- The proof of the cycle of calls {words}. The measure is the number of bytes left. What stands at the start of the slice goes by how many
 -- operands its first byte takes (`proofs/Answered.antt`), and each call answers of its own part of the slice.
 -- Assumes nothing.
-use Prim.Native.Nat.{ℕ, _+_, _*_, _<_}
+use Prim.Native.Nat.{ℕ, _+_, _*_, _≤_, _<_}
 use mathlib.Core.Path.{_≡_, refl, sym, ap₂, _∙_}
 use mathlib.Core.List.{List}
 use native.Mathlib.Omega.{arith}
 use borrow.Author.Needs.{needs}
-use lib.ListN.{length}
+use lib.ListN.{length, drop}
 use Rattle.sets.specs.Bit.{has}
-use Rattle.sets.specs.Gathered.{setOf, has-setOf, setOf-same}
+use Rattle.sets.specs.Gathered.{setOf}
+use Rattle.sets.specs.Laws.Gathered.{has-setOf, setOf-same}
 use Rattle.exprs.specs.declared.token.Token.{Token}
 use Rattle.exprs.specs.declared.words.Worded.{Worded}
 use Rattle.exprs.specs.declared.words.Worded.the-variants.{Word, NoWord}
 use Rattle.exprs.specs.Token.{operandCount}
 use Rattle.exprs.specs.Expr.{Expr, value}
 use Rattle.exprs.specs.Answers.{wordsOf, wordsIn, combined}
-use Rattle.exprs.proofs.Operands.{node, value-node, combined-one}
-use Rattle.exprs.proofs.Answered.{Answer, nothing-left, found-at, missing-at, alone, no-first, first-fits, one-operand, no-second, both-fit, two-operands}
+use Rattle.exprs.proofs.Operands.{Opens, node, value-node, combined-one}
+use Rattle.exprs.proofs.Answered.{Answer, Tells, nothing-left, told-at, missing-at, alone, no-first, first-fits, one-operand, no-second, both-fit, two-operands}
 use borrow.Fn.Kinds.{In}
 use borrow.Fn.PlainCycle.{Measures, is, falls, and}
 use Rattle.exprs.proofs.words.words.Reads as words
@@ -89,20 +90,64 @@ words-at t = and 1 words-kinds.ps (is 1 words-kinds.ps μ-words t) words.Pre
 abbrev words-below : ℕ → In 1 words-kinds.ps
 words-below t = and 1 words-kinds.ps (falls 1 words-kinds.ps _<_ μ-words t) words.Pre
 
+-- ---- the places of the code, each named from the one before it
+
+module _ (t : ℕ) where
+  abbrev claims : words-lts.Claims
+  claims = (
+    classify-reads.Asked,
+    classify-reads.Learnt,
+    operand-count-reads.Asked,
+    operand-count-reads.Learnt,
+    word-alone-reads.Asked,
+    word-alone-reads.Learnt,
+    words-below t,
+    words.Post,
+    combine-words-reads.Asked,
+    combine-words-reads.Learnt,
+  )
+
+  -- the number of the first byte's operands is known
+  module _ (p : words-lts.After-operand-count claims (words-at t) words.Post) where
+    abbrev start : words-lts.Start claims (words-at t) words.Post
+    start = p .before .before .before .before .before
+
+    abbrev text : List ℕ
+    text = start .args .s .now
+
+    abbrev here : Answer Worded ℕ
+    here = worth (start .args .now) (start .args .block)
+
+    opens : Opens text (p .before .classify .result) (p .operand-count .result)
+    opens = record { filled = p .before .before .before .if1 .left; token = p .before .classify .ensures; count = p .operand-count .ensures }
+
+  -- the first operand is known
+  module _ (p : words-lts.After-x claims (words-at t) words.Post) where
+    abbrev opened : words-lts.After-operand-count claims (words-at t) words.Post
+    opened = p .before .before .before .before .before
+
+    abbrev one : ℕ
+    one = p .x .given .0 .1 .0
+
+    first : Tells (here opened) (drop 1 (text opened)) (p .x .given .0 .0) one
+    unfolding wordsOf worth
+    first = told-at (here opened) (text opened) 1 _ (p .before .before .words .ensures) _ _ (p .x .given .1)
+
+    fits : (1 ≤ one) × (1 + one ≤ length (text opened))
+    fits = first-fits (here opened) (opens opened) first
+
+  -- both operands are known
+  module _ (p : words-lts.After-y claims (words-at t) words.Post) where
+    abbrev one-of : words-lts.After-x claims (words-at t) words.Post
+    one-of = p .before .before .before .before .before .before
+
+    second : Tells (here (opened one-of)) (drop (1 + one one-of) (text (opened one-of))) (p .y .given .0 .0) (p .y .given .0 .1 .0)
+    unfolding wordsOf worth
+    second = told-at (here (opened one-of)) (text (opened one-of)) _ _ (p .before .before .words2 .ensures) _ _ (p .y .given .1)
+
 pub +words-spec : {M : Type 1} → statement M
-unfolding wordsOf
-+words-spec = close μ-words λ t. words-lts.spec (
-  classify-reads.Asked,
-  classify-reads.Learnt,
-  operand-count-reads.Asked,
-  operand-count-reads.Learnt,
-  word-alone-reads.Asked,
-  word-alone-reads.Learnt,
-  words-below t,
-  words.Post,
-  combine-words-reads.Asked,
-  combine-words-reads.Learnt,
-)
+unfolding wordsOf worth
++words-spec = close μ-words λ t. words-lts.spec (claims t)
     (words-at t)
     words.Post
     (λ c. nothing-left (worth _ _) _ (c .if1 .taken))
@@ -110,24 +155,46 @@ unfolding wordsOf
     (λ c κs. search needs)
     (λ c κs. search needs)
     (λ c κs. search needs)
-    (λ c. let o = c .before .before in let s : List ℕ = o .before .before .before .before .before .args .s .now in c .word-alone .ensures ∙ alone (worth _ _) s _ _ (o .before .before .before .if1 .left) (o .before .classify .ensures) (o .operand-count .ensures) (c .before .if2 .taken))
+    (λ c. let o = c .before .before in c .word-alone .ensures ∙ alone (here t o) (opens t o) (c .before .if2 .taken))
     (λ c. search needs)
     (λ c. search needs)
     (λ c. search needs)
-    (λ c κs. (omega (arith, c .words-arg .given .2, c .before .before .before .before .before .before .before .pre .0, c .before .before .before .before .before .if1 .left), tt))
+    (λ c κs. let o = c .before .before in (omega (arith, c .words-arg .given .2, start t o .pre .0, opens t o .filled), tt))
     (λ c. search needs)
     (λ c. search needs)
-    (λ c. let o = c .before .before .before .before .before in let s : List ℕ = o .before .before .before .before .before .args .s .now in no-first (worth _ _) s _ _ (o .before .before .before .if1 .left) (o .before .classify .ensures) (o .operand-count .ensures) (c .before .before .before .before .if2 .left) (missing-at (worth _ _) s 1 _ (c .before .before .words .ensures) (c .enum-told .given .1)))
-    (λ c. let o = c .before .before .before .before .before .before in let s : List ℕ = o .before .before .before .before .before .args .s .now in let f = found-at (worth _ _) s 1 _ (c .before .before .before .words .ensures) _ _ (c .before .x .given .1) in omega (arith, first-fits (worth _ _) s _ _ (o .before .before .before .if1 .left) (o .before .classify .ensures) (o .operand-count .ensures) _ _ f))
+    (λ c.
+    let e = c .before .before .before .before in
+    let o = e .before in
+    no-first (here t o) (opens t o) (e .if2 .left) (missing-at (here t o) (text t o) 1 _ (c .before .before .words .ensures) (c .enum-told .given .1)))
+    (λ c. omega (arith, fits t (c .before)))
     (λ c κs. search needs)
-    (λ c. let o = c .before .before .before .before .before .before .before .before in let s : List ℕ = o .before .before .before .before .before .args .s .now in let f = found-at (worth _ _) s 1 _ (c .before .before .before .before .before .words .ensures) _ _ (c .before .before .before .x .given .1) in ap₂ Word (c .combine-words .ensures) refl ∙ one-operand (worth _ _) s _ _ (o .before .before .before .if1 .left) (o .before .classify .ensures) (o .operand-count .ensures) _ _ f (c .before .if3 .taken))
-    (λ c. let o = c .before .before .before .before .before .before .before in let s : List ℕ = o .before .before .before .before .before .args .s .now in let f = found-at (worth _ _) s 1 _ (c .before .before .before .before .words .ensures) _ _ (c .before .before .x .given .1) in omega (arith, first-fits (worth _ _) s _ _ (o .before .before .before .if1 .left) (o .before .classify .ensures) (o .operand-count .ensures) _ _ f))
-    (λ c. let o = c .before .before .before .before .before .before .before in let s : List ℕ = o .before .before .before .before .before .args .s .now in let f = found-at (worth _ _) s 1 _ (c .before .before .before .before .words .ensures) _ _ (c .before .before .x .given .1) in omega (arith, first-fits (worth _ _) s _ _ (o .before .before .before .if1 .left) (o .before .classify .ensures) (o .operand-count .ensures) _ _ f))
+    (λ c.
+    let p = c .before .before .before in
+    let o = opened t p in
+    ap₂ Word (c .combine-words .ensures) refl ∙ one-operand (here t o) (opens t o) (first t p) (c .before .if3 .taken))
+    (λ c. omega (arith, fits t (c .before .before)))
+    (λ c. omega (arith, fits t (c .before .before)))
     (λ c. search needs)
-    (λ c κs. (omega (arith, c .words-arg2 .given .2, c .before .before .before .before .before .before .before .before .before .before .before .before .before .pre .0, c .before .before .before .before .before .before .before .before .before .before .before .if1 .left), tt))
+    (λ c κs.
+    let p = c .before .before .before in
+    (omega (arith, c .words-arg2 .given .2, start t (opened t p) .pre .0, fits t p), tt))
     (λ c. search needs)
     (λ c. search needs)
-    (λ c. let o = c .before .before .before .before .before .before .before .before .before .before .before in let s : List ℕ = o .before .before .before .before .before .args .s .now in let f = found-at (worth _ _) s 1 _ (c .before .before .before .before .before .before .before .before .words .ensures) _ _ (c .before .before .before .before .before .before .x .given .1) in no-second (worth _ _) s _ _ (o .before .before .before .if1 .left) (o .before .classify .ensures) (o .operand-count .ensures) _ _ f (c .before .before .before .before .before .before .before .before .before .before .if2 .left) (c .before .before .before .before .if3 .left) (missing-at (worth _ _) s _ _ (c .before .before .words2 .ensures) (c .enum-told2 .given .1)))
+    (λ c.
+    let e = c .before .before .before .before in
+    let p = e .before .before in
+    let o = opened t p in
+    no-second (here t o) (opens t o) (first t p) (p .before .before .before .before .if2 .left) (e .if3 .left)
+    (missing-at (here t o) (text t o) _ _ (c .before .before .words2 .ensures) (c .enum-told2 .given .1)))
     (λ c κs. search needs)
-    (λ c. let o = c .before .before .before .before .before .before .before .before .before .before .before .before .before in let s : List ℕ = o .before .before .before .before .before .args .s .now in let f = found-at (worth _ _) s 1 _ (c .before .before .before .before .before .before .before .before .before .before .words .ensures) _ _ (c .before .before .before .before .before .before .before .before .x .given .1) in let g = found-at (worth _ _) s _ _ (c .before .before .before .before .words2 .ensures) _ _ (c .before .before .y .given .1) in omega (arith, both-fit (worth _ _) s _ _ (o .before .before .before .if1 .left) (o .before .classify .ensures) (o .operand-count .ensures) _ _ f _ _ g))
-    (λ c. let o = c .before .before .before .before .before .before .before .before .before .before .before .before .before in let s : List ℕ = o .before .before .before .before .before .args .s .now in let f = found-at (worth _ _) s 1 _ (c .before .before .before .before .before .before .before .before .before .before .words .ensures) _ _ (c .before .before .before .before .before .before .before .before .x .given .1) in let g = found-at (worth _ _) s _ _ (c .before .before .before .before .words2 .ensures) _ _ (c .before .before .y .given .1) in ap₂ Word (c .combine-words2 .ensures) refl ∙ two-operands (worth _ _) s _ _ (o .before .before .before .if1 .left) (o .before .classify .ensures) (o .operand-count .ensures) _ _ f _ _ g (c .before .before .before .before .before .before .before .before .before .before .before .before .if2 .left) (c .before .before .before .before .before .before .if3 .left))
+    (λ c.
+    let q = c .before .before in
+    let p = one-of t q in
+    let o = opened t p in
+    omega (arith, both-fit (here t o) (opens t o) (first t p) (second t q)))
+    (λ c.
+    let q = c .before .before in
+    let p = one-of t q in
+    let o = opened t p in
+    ap₂ Word (c .combine-words2 .ensures) refl
+    ∙ two-operands (here t o) (opens t o) (first t p) (second t q) (p .before .before .before .before .if2 .left) (q .before .before .before .before .if3 .left))

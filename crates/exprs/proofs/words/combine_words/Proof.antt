@@ -2,7 +2,7 @@
 -- Assumes nothing.
 use native.Mathlib.Omega.{arith}
 use borrow.Author.Needs.{needs}
-use Rattle.sets.specs.Gathered.{setOf-none, not-setOf, and-setOf, or-setOf, implies-setOf, alike-setOf}
+use Rattle.sets.specs.Laws.Gathered.{setOf-none, not-setOf, and-setOf, or-setOf, implies-setOf, alike-setOf}
 use Rattle.exprs.proofs.words.combine_words.Statement.{statement}
 use Rattle.exprs.proofs.words.combine_words.Tie as tie
 

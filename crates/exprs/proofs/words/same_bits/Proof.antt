@@ -1,5 +1,5 @@
 -- `exprs::words::same_bits` meets its contract: all 64 places, or none. Assumes nothing.
-use Rattle.sets.specs.Gathered.{setOf-none, setOf-all}
+use Rattle.sets.specs.Laws.Gathered.{setOf-none, setOf-all}
 use Rattle.exprs.proofs.words.same_bits.Statement.{statement}
 use Rattle.exprs.proofs.words.same_bits.Tie as tie
 

@@ -1,6 +1,5 @@
 -- `models::model::finish` meets its contract: at each way out, the tests that led there pick the case of `finished`.
 -- Assumes nothing.
-use mathlib.Core.Path.{sym, _∙_}
 use borrow.Author.Needs.{needs}
 use borrow.Author.Tests.{eq-eqb, ne-eqb, lt-ltb, le-ltb}
 use Rattle.models.specs.Reading.{finished}
@@ -14,7 +13,6 @@ finish-spec =
     (tie.spec
     (λ c κs. search needs)
     (λ c. rw (c .refuse .ensures, ne-eqb _ _ (c .before .if1 .taken)))
-    (λ c. search needs)
     (λ c κs. search needs)
     (λ c. rw (c .refuse2 .ensures, eq-eqb _ _ (c .before .before .before .if1 .left), lt-ltb _ _ (c .before .if2 .taken)))
     (λ c. rw (eq-eqb _ _ (c .before .before .before .before .if1 .left), le-ltb _ _ (c .before .before .if2 .left))))

@@ -1,39 +1,40 @@
--- `models::model::next_rule` meets its contract: what the line says is put at rule i, as `ruled` says. Each place is within the text.
+-- `models::model::next_rule` meets its contract: what the line gives is put at rule i, as `ruled` says, and the line ends within the text.
 -- Assumes nothing.
-use Prim.Native.Nat.{ℕ, _+_, _≤_}
+use Prim.Native.Nat.{ℕ}
 use mathlib.Core.Path.{_≡_, sym, ap, _∙_}
 use mathlib.Core.List.{List}
-use native.Mathlib.Omega.{arith}
 use borrow.Author.Needs.{needs}
 use borrow.Author.Tests.{eq-eqb, ne-eqb}
-use lib.ListN.{length, drop, length-drop}
-use Rattle.models.specs.declared.lines.Line.{Line}
-use Rattle.models.specs.declared.lines.Line.the-variants.{Read}
+use lib.ListN.{drop}
+use Rattle.lines.specs.declared.names.RuleLine.{RuleLine}
+use Rattle.lines.specs.declared.names.RuleLine.the-variants.{RuleRead}
+use Rattle.lines.specs.declared.names.RuleParts.{RuleParts}
+use Rattle.lines.specs.Lines.{ruleLine, isTaken}
+use Rattle.lines.specs.Laws.Heard.{rule-bytes, rule-heard}
 use Rattle.models.specs.declared.model.Rules.{Rules}
-use Rattle.models.specs.Lines.{ruleLine, isTaken}
-use Rattle.models.specs.Ranges.{says-of, rule-heard}
+use Rattle.models.specs.Places.{Placed, Passes}
 use Rattle.models.specs.Reading.{ruled, nextRule, withRule}
+use Rattle.models.specs.Laws.Ranges.{passes}
 use Rattle.models.proofs.model.next_rule.Statement.{statement}
 use Rattle.models.proofs.model.next_rule.Tie as tie
 
--- where a line is read, its end and the places in it are within the text
-record Places (text : List ℕ) (at place bytes : ℕ) : Type 0 where
-  next : at + bytes ≤ length text
-  here : at + 1 ≤ length text
-  near : place ≤ 14
+module _ (text : List ℕ) (vars i : ℕ) (r : Rules) {l : RuleLine} (said : l ≡ ruleLine vars (isTaken text (r .names) (r .steps) i) (r .place .at) (drop (r .place .at) text)) where
+  -- a line that is read ends within the text
+  line-passes : {parts : RuleParts} {bytes : ℕ} → Placed text (r .place) → l ≡ RuleRead parts bytes → Passes text (r .place) bytes
+  line-passes h told = passes h (rule-bytes (rule-heard vars (isTaken text (r .names) (r .steps) i) (r .place .at) (drop (r .place .at) text)) (sym said ∙ told))
 
-places : (text : List ℕ) (vars i : ℕ) (r : Rules) {l : Line} {place bytes : ℕ} → l ≡ ruleLine vars (isTaken text (r .names) (r .steps) i) (drop (r .at) text)
-    → l ≡ Read place bytes → Places text (r .at) place bytes
-places text vars i r {place = place} {bytes} said told =
-    let h = says-of (rule-heard vars (isTaken text (r .names) (r .steps) i) (drop (r .at) text)) (sym said ∙ told) in
-    let d = length-drop (r .at) text in
-    record { next = omega arith; here = omega arith; near = h .small }
+  -- the state where no earlier line was refused
+  applied : r .number ≡ 0 → ruled i r l ≡ nextRule text vars i r
+  unfolding nextRule
+  applied z = rw (eq-eqb (r .number) 0 z) (ap (ruled i r) said)
 
--- the state where no earlier line was refused
-applied : (text : List ℕ) (vars i : ℕ) (r : Rules) (l : Line) → r .number ≡ 0 → l ≡ ruleLine vars (isTaken text (r .names) (r .steps) i) (drop (r .at) text)
-    → ruled i r l ≡ nextRule text vars i r
-unfolding nextRule
-applied text vars i r l z said = rw (eq-eqb (r .number) 0 z) (ap (ruled i r) said)
+-- the places of the code, each named from the one before it
+module _ (p : tie.After-rule-line) where
+  abbrev fresh : tie.Else1
+  fresh = p .before .before .before .before
+
+  abbrev start : tie.Start
+  start = fresh .before .before .before
 
 pub next-rule-spec : {M : Type 1} → statement M
 unfolding nextRule ruled withRule
@@ -44,19 +45,18 @@ next-rule-spec =
     (λ c κs. search needs)
     (λ c. search needs)
     (λ c. search needs)
-    (λ c. search needs)
+    (λ c κs.
+    let p = c .before .before .before in
+    let a = start p .args in
+    line-passes (a .text .now) (a .vars) (a .i) (a .r) (p .rule-line .ensures) (start p .pre .place) (c .before .l2 .given .1))
+    (λ c κs. start (c .before .before .before .before) .pre .rule)
     (λ c.
-    let a = c .before .before .before .before .before .before .before .before .before .args in
-    omega (arith, places (a .text .now) (a .vars) (a .i) (a .r) (c .before .before .before .rule-line .ensures) (c .before .l2 .given .1)))
+    let p = c .before .before .before in
+    let a = start p .args in
+    applied (a .text .now) (a .vars) (a .i) (a .r) (sym (c .before .l .given .1) ∙ p .rule-line .ensures) (fresh p .if1 .left))
     (λ c.
-    let a = c .before .before .before .before .before .before .before .before .before .args in
-    omega (arith, places (a .text .now) (a .vars) (a .i) (a .r) (c .before .before .before .rule-line .ensures) (c .before .l2 .given .1)))
-    (λ c.
-    let a = c .before .before .before .before .before .before .before .before .before .args in
-    omega (arith, places (a .text .now) (a .vars) (a .i) (a .r) (c .before .before .before .rule-line .ensures) (c .before .l2 .given .1)))
-    (λ c κs. search needs)
-    (λ c. applied _ _ _ _ _ (c .before .before .before .before .before .before .if1 .left) (sym (c .before .l .given .1) ∙ c .before .before .before .rule-line .ensures))
-    (λ c.
-    let a = c .before .before .before .before .before .before .before .before .before .before .args in
-    c .with-rule .ensures
-    ∙ applied (a .text .now) (a .vars) (a .i) (a .r) _ (c .before .before .before .before .before .before .before .if1 .left) (sym (c .before .before .l2 .given .1) ∙ c .before .before .before .before .rule-line .ensures)))
+    let k = c .before .before .before in
+    let p = k .before .before in
+    let a = start p .args in
+    c .with-rule .ensures ∙ ap (withRule (a .r) (a .i) _) (c .before .behind .ensures)
+    ∙ applied (a .text .now) (a .vars) (a .i) (a .r) (sym (k .l2 .given .1) ∙ p .rule-line .ensures) (fresh p .if1 .left)))

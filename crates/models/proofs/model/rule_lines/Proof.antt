@@ -1,19 +1,21 @@
 -- `models::model::rule_lines` meets its contract. The loop's invariant: after i turns the state is `rulesRead` of i lines.
 -- Assumes nothing.
-use Prim.Native.Nat.{ℕ, _-_, _≤_}
-use mathlib.Core.Path.{_≡_, refl, sym, ap, _∙_}
+use Prim.Native.Nat.{_-_, _≤_}
+use mathlib.Core.Path.{_≡_, refl, sym, ap, _∙_, subst}
 use native.Mathlib.Omega.{arith}
 use native.Mathlib.Numerals.{add-one}
-use borrow.Author.Needs.{needs}
-use Rattle.models.specs.Reading.{noRules, nextRule, rulesRead}
+use Rattle.models.specs.declared.model.Rules.{Rules}
+use Rattle.models.specs.Places.{Placed}
+use Rattle.models.specs.Reading.{nextRule, rulesRead}
+use Rattle.models.specs.Laws.Ranges.{rules-placed}
 use Rattle.models.proofs.model.rule_lines.Statement.{statement}
 use Rattle.models.proofs.model.rule_lines.Tie as tie
 
 abbrev Inv-loop : tie.InvT-loop
-Inv-loop text vars at rules r₀ i₀ r i = (i ≤ rules) × (r ≡ rulesRead text vars at i)
+Inv-loop text vars rules r₀ i₀ r i = (i ≤ rules) × (r ≡ rulesRead text vars (r₀ .place) i)
 
 abbrev μ-loop : tie.MeasureT-loop
-μ-loop text vars at rules r₀ i₀ r i = rules - i
+μ-loop text vars rules r₀ i₀ r i = rules - i
 
 pub rule-lines-spec : {M : Type 1} → statement M
 unfolding rulesRead
@@ -23,14 +25,21 @@ rule-lines-spec =
     Inv-loop
     μ-loop
     (λ c. (omega arith, refl))
-    (λ c κs. omega arith)
+    (λ c κs.
+    let l = c .before .loop in
+    let s = c .before .before .before in
+    let a = s .args in
+    record {
+      rule = omega (arith, s .pre .few);
+      place = subst (λ (r : Rules). Placed (a .text .now) (r .place)) (sym (l .inv .1)) (rules-placed (a .text .now) (a .vars) (a .place) (s .pre .place) (l .i));
+    })
     (λ c. omega arith)
     (λ c. omega arith)
     (λ c.
     let a = c .before .before .before .before .args in
     let l = c .before .before .loop in
-    (omega arith, c .next-rule .ensures ∙ ap (nextRule (a .text .now) (a .vars) (l .i)) (l .inv .1) ∙ ap (rulesRead (a .text .now) (a .vars) (a .at)) (sym (add-one (l .i)))))
+    (omega arith, c .next-rule .ensures ∙ ap (nextRule (a .text .now) (a .vars) (l .i)) (l .inv .1) ∙ ap (rulesRead (a .text .now) (a .vars) (a .place)) (sym (add-one (l .i)))))
     (λ c.
     let a = c .before .before .before .args in
     let end : c .before .loop .i ≡ a .rules = omega arith in
-    c .before .loop .inv .1 ∙ ap (rulesRead (a .text .now) (a .vars) (a .at)) end))
+    c .before .loop .inv .1 ∙ ap (rulesRead (a .text .now) (a .vars) (a .place)) end))

@@ -14,4 +14,6 @@ set-line-spec =
     (λ c κs. search needs)
     (λ c κs. search needs)
     (λ c. search needs)
-    (λ c. line-made _ _ _ _ _ _ (c .before .before .before .before .before .before .before .before .before .before .put .ensures) (c .before .before .before .before .before .before .put-names .ensures) (c .before .before .put-byte .ensures)))
+    (λ c.
+    let n = c .before .before .before .before .before .before in
+    line-made _ _ _ _ _ _ (n .before .before .before .before .put .ensures) (n .put-names .ensures) (c .before .before .put-byte .ensures)))

@@ -8,7 +8,8 @@ use borrow.Author.Needs.{needs}
 use borrow.Author.Tests.{lt-ltb}
 use lib.ListN.{take}
 use Rattle.io.specs.Digits.{digits, Fewest}
-use Rattle.models.specs.Decimal.{decimal, spelled}
+use Rattle.lines.specs.Decimal.{decimal}
+use Rattle.lines.specs.Laws.Decimal.{spelled}
 use Rattle.reports.proofs.Putting.{put-as}
 use Rattle.reports.proofs.numbers.put_decimal.Statement.{statement}
 use Rattle.reports.proofs.numbers.put_decimal.Tie as tie

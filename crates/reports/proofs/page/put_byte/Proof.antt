@@ -3,7 +3,7 @@
 use native.Mathlib.Omega.{arith}
 use mathlib.Core.Path.{sym}
 use borrow.Author.Needs.{needs}
-use Rattle.reports.specs.Page.{passed, stored, left-out}
+use Rattle.reports.specs.Laws.Page.{passed, stored, left-out}
 use Rattle.reports.proofs.page.put_byte.Statement.{statement}
 use Rattle.reports.proofs.page.put_byte.Tie as tie
 

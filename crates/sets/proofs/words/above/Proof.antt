@@ -9,7 +9,8 @@ use borrow.Author.Needs.{needs}
 use borrow.Author.Tests.{eq-eqb, ne-eqb}
 use Rattle.sets.specs.Bit.{has}
 use Rattle.sets.specs.Cores.{noneBelow}
-use Rattle.sets.specs.Gathered.{setOf, setOf-all, setOf-same}
+use Rattle.sets.specs.Gathered.{setOf}
+use Rattle.sets.specs.Laws.Gathered.{setOf-all, setOf-same}
 use Rattle.sets.proofs.Passing.{lacking, kept, passed, all-above}
 use Rattle.sets.proofs.words.above.Statement.{statement}
 use Rattle.sets.proofs.words.above.Tie as tie

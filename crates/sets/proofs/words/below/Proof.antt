@@ -9,7 +9,8 @@ use borrow.Author.Needs.{needs}
 use borrow.Author.Tests.{eq-eqb, ne-eqb}
 use Rattle.sets.specs.Bit.{has, full}
 use Rattle.sets.specs.Cores.{noneBelow}
-use Rattle.sets.specs.Gathered.{setOf, setOf-lt, has-setOf, setOf-all, setOf-same, not-setOf}
+use Rattle.sets.specs.Gathered.{setOf}
+use Rattle.sets.specs.Laws.Gathered.{setOf-lt, has-setOf, setOf-all, setOf-same, not-setOf}
 use Rattle.sets.proofs.Passing.{lacking, kept, passed, all-below}
 use Rattle.sets.proofs.words.below.Statement.{statement}
 use Rattle.sets.proofs.words.below.Tie as tie

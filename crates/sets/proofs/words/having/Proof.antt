@@ -3,9 +3,11 @@
 use Prim.Native.Nat.{ℕ, _≤_}
 use mathlib.Core.Path.{_≡_, refl, sym, ap, _∙_}
 use native.Mathlib.Omega.{arith}
-use Rattle.sets.specs.Bit.{has, has-below}
-use Rattle.sets.specs.Cores.{false-if}
-use Rattle.sets.specs.Gathered.{one, setOf, setOf-same, setOf-none}
+use Rattle.sets.specs.Bit.{has}
+use Rattle.sets.specs.Laws.Bit.{has-below}
+use Rattle.sets.specs.Laws.Cores.{false-if}
+use Rattle.sets.specs.Gathered.{one, setOf}
+use Rattle.sets.specs.Laws.Gathered.{setOf-same, setOf-none}
 use Rattle.sets.proofs.words.having.Statement.{statement}
 use Rattle.sets.proofs.words.having.Tie as tie
 

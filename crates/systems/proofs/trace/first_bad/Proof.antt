@@ -7,20 +7,20 @@ use native.Mathlib.Omega.{arith}
 use borrow.Author.Count.{below-more}
 use borrow.Author.Needs.{needs}
 use lib.ListN.{getD}
-use Rattle.systems.specs.Least.{least-only}
-use Rattle.systems.specs.Tabled.{marked}
+use Rattle.systems.specs.Laws.Least.{least-only}
+use Rattle.systems.specs.ByTables.{markAt}
 use Rattle.systems.proofs.Stored.{sound-few}
 use Rattle.systems.proofs.trace.first_bad.Statement.{statement}
 use Rattle.systems.proofs.trace.first_bad.Tie as tie
 
 abbrev Inv-loop : tie.InvT-loop
-Inv-loop bads x j₀ j = (j ≤ x .count) × ((k : ℕ) → k < j → marked bads (getD (x .order) k 0) ≡ false)
+Inv-loop t x j₀ j = (j ≤ x .count) × ((k : ℕ) → k < j → markAt (t .bad) (getD (x .order) k 0) ≡ false)
 
 abbrev μ-loop : tie.MeasureT-loop
-μ-loop bads x j₀ j = x .count - j
+μ-loop t x j₀ j = x .count - j
 
 pub first-bad-spec : {M : Type 1} → statement M
-unfolding marked
+unfolding markAt
 first-bad-spec =
     tie.close
     (tie.spec
@@ -31,12 +31,12 @@ first-bad-spec =
     (λ c. search needs)
     (λ c. let b = c .before .before .before in b .pre .states (c .before .before .loop .j) (c .before .loop-test .taken))
     (λ c.
-    let l = c .before .before .before .loop in
+    let l = c .before .before .before .before .loop in
     sym (least-only (record { within = l .inv .0; passes = λ _. c .if1 .taken; before = l .inv .1 })))
     (λ c. search needs)
     (λ c. omega arith)
     (λ c.
-    let l = c .before .before .before .loop in
+    let l = c .before .before .before .before .loop in
     (omega arith, below-more _ (l .j) (l .inv .1) (c .if1 .left)))
     (λ c.
     let l = c .before .loop in

@@ -1,0 +1,23 @@
+-- `analysis::lists::list` meets its contract: either array has room for the masks.
+-- Assumes nothing.
+use native.Mathlib.Omega.{arith}
+use borrow.Author.Needs.{needs}
+use Rattle.semantics.specs.Laws.Filled.{repeats, array-room}
+use Rattle.analysis.proofs.lists.list.Statement.{statement}
+use Rattle.analysis.proofs.lists.list.Tie as tie
+
+pub list-spec : {M : Type 1} → statement M
+list-spec =
+    tie.close
+    (tie.spec
+    (λ c. repeats 1024 0)
+    (λ c κs.
+    let g = c .before .before in
+    let p = g .before .before .before .before .pre in
+    array-room 1024 3 (omega arith) (omega (arith, g .if1 .taken)) (p .vars) (p .rules))
+    (λ c. repeats 16384 0)
+    (λ c κs. let p = c .before .before .before .before .before .before .pre in array-room 16384 7 (omega arith) (p .vars) (p .vars) (p .rules))
+    (λ c. search needs)
+    (λ c. c .before .before .before .list-with .ensures)
+    (λ c. search needs)
+    (λ c. c .before .before .before .list-with2 .ensures))

@@ -1,0 +1,17 @@
+-- `analysis::must::must` meets its contract: either array has room for the masks.
+-- Assumes nothing.
+use native.Mathlib.Omega.{arith}
+use Rattle.semantics.specs.Laws.Filled.{repeats, array-room}
+use Rattle.analysis.proofs.must.must.Statement.{statement}
+use Rattle.analysis.proofs.must.must.Tie as tie
+
+pub must-spec : {M : Type 1} → statement M
+must-spec =
+    tie.close
+    (tie.spec
+    (λ c. repeats 1024 0)
+    (λ c κs. let p = c .before .before .before .before .pre in array-room 1024 3 (omega arith) (omega (arith, c .before .if1 .taken)) (p .vars) (p .rules))
+    (λ c. repeats 16384 0)
+    (λ c κs. let p = c .before .before .before .before .pre in array-room 16384 7 (omega arith) (p .vars) (p .vars) (p .rules))
+    (λ c. c .before .must-with .ensures)
+    (λ c. c .before .must-with2 .ensures))

@@ -1,0 +1,95 @@
+// The list of the cores or of the cuts: all of both are found first, then the list is counted, and only then written.
+ghost use mathlib.Core.Path.{_≡_};
+ghost use Rattle.sets.specs.Lists.{listOf};
+ghost use Rattle.models.specs.Written.{described};
+ghost use Rattle.semantics.specs.Meaning.{judge};
+ghost use Rattle.cores.specs.Marks.{marked, Room};
+ghost use Rattle.cores.specs.Which.{listed};
+ghost use Rattle.semantics.specs.TablesOf.{RoomFor};
+ghost use Rattle.analysis.specs.Few.{Few};
+ghost use Rattle.analysis.specs.Lists.{tableOf, listedAnswer, listedBytes};
+use cores::which::WhichList;
+use models::model::Model;
+
+// How many sets were written; or that the lent bytes are too few for the list, and then none was.
+pub enum Listed {
+    Count(usize),
+    TooShort,
+}
+
+// The list of the marked sets, if the lent bytes are enough for it.
+fn write(table: &[u64], rules: usize, lent: &mut [u8]) -> Listed
+    requires { ⌜ Room rules (now table) ⌝ }
+    ensures { λ r. ⌜ r ≡ listedAnswer (listOf rules (marked (now (table .entry)))) (now (lent .entry)) ⌝ }
+    ensures { λ _. ⌜ now (lent .exit) ≡ listedBytes (listOf rules (marked (now (table .entry)))) (now (lent .entry)) ⌝ }
+{
+    let n = cores::writing::count(table, rules);
+    if lent.len() / 2 < n {
+        return Listed::TooShort;
+    }
+    cores::writing::write_sorted(table, rules, lent);
+    Listed::Count(n)
+}
+
+// The list that is meant, of the cores and the cuts that are marked.
+fn write_one(which: WhichList, cores: &[u64], cuts: &[u64], rules: usize, lent: &mut [u8]) -> Listed
+    requires { ⌜ Room rules (now cores) ⌝ }
+    requires { ⌜ Room rules (now cuts) ⌝ }
+    ensures { λ r. ⌜ r ≡ listedAnswer (listOf rules (marked (tableOf which (now (cores .entry)) (now (cuts .entry))))) (now (lent .entry)) ⌝ }
+    ensures { λ _. ⌜ now (lent .exit) ≡ listedBytes (listOf rules (marked (tableOf which (now (cores .entry)) (now (cuts .entry))))) (now (lent .entry)) ⌝ }
+{
+    match which {
+        WhichList::Cores => write(cores, rules, lent),
+        WhichList::Cuts => write(cuts, rules, lent),
+    }
+}
+
+// The list that is meant, by masks in the lent room. Tables of 4 words are enough for at most 8 rules.
+fn list_with(text: &[u8], m: Model, which: WhichList, masks: &mut [u16], lent: &mut [u8]) -> Listed
+    requires { ⌜ RoomFor m (now masks) ⌝ }
+    ensures { λ r. ⌜ r ≡ listedAnswer (listed which (m .rules) (judge (described (now (text .entry)) m))) (now (lent .entry)) ⌝ }
+    ensures { λ _. ⌜ now (lent .exit) ≡ listedBytes (listed which (m .rules) (judge (described (now (text .entry)) m))) (now (lent .entry)) ⌝ }
+{
+    let t = semantics::tables::fill(text, m, masks);
+    let words = cores::marks::word_count(m.rules);
+    if m.rules <= 8 {
+        let mut unknown = [0xFFFF_FFFF_FFFF_FFFFu64; 4];
+        let mut cores = [0u64; 4];
+        let mut cuts = [0u64; 4];
+        cores::seeds::find(
+            masks,
+            t,
+            &mut unknown[..words],
+            &mut cores[..words],
+            &mut cuts[..words],
+        );
+        write_one(which, &cores[..words], &cuts[..words], m.rules, lent)
+    } else {
+        let mut unknown = [0xFFFF_FFFF_FFFF_FFFFu64; 1024];
+        let mut cores = [0u64; 1024];
+        let mut cuts = [0u64; 1024];
+        cores::seeds::find(
+            masks,
+            t,
+            &mut unknown[..words],
+            &mut cores[..words],
+            &mut cuts[..words],
+        );
+        write_one(which, &cores[..words], &cuts[..words], m.rules, lent)
+    }
+}
+
+// The list that is meant, over the front of the lent bytes.
+pub fn list(text: &[u8], m: Model, which: WhichList, lent: &mut [u8]) -> Listed
+    requires { ⌜ Few m ⌝ }
+    ensures { λ r. ⌜ r ≡ listedAnswer (listed which (m .rules) (judge (described (now (text .entry)) m))) (now (lent .entry)) ⌝ }
+    ensures { λ _. ⌜ now (lent .exit) ≡ listedBytes (listed which (m .rules) (judge (described (now (text .entry)) m))) (now (lent .entry)) ⌝ }
+{
+    if m.vars <= 3 {
+        let mut masks = [0u16; 1024];
+        list_with(text, m, which, &mut masks[..], lent)
+    } else {
+        let mut masks = [0u16; 16384];
+        list_with(text, m, which, &mut masks[..], lent)
+    }
+}

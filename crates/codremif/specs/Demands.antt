@@ -1,0 +1,61 @@
+-- The demands of the mission, as theorems about what exactly the calls of this crate answer and write. Nothing is assumed.
+-- To believe them, read these files below crates/ in this order (lines without imports and blank lines, 847 in all). What is proved of their
+-- definitions stands in `Laws` and need not be read, and neither need the functions that compute (the reading of a text, the verdict, the lists):
+-- the theorems say what they give.
+--   a number as a set of rules or of letters           sets/specs/Bit                8
+--   expressions, their value and their written form    exprs/specs/Expr             42
+--   a number in base ten                               lines/specs/Decimal          10
+--   bytes, and those of a name                         lines/specs/Bytes            43
+--   a legal rule and its line                          lines/specs/Written          40
+--   a model, when it is legal, its written form        models/specs/Written         53
+--   accepted texts are exactly these                   models/specs/Accepted        33
+--   runs, reached, holds, the trace                    systems/specs/System         51
+--   the transition system of a model and a set         semantics/specs/Meaning      30
+--   parts, sharing a rule, the order of a list         sets/specs/Sets              27
+--   cores and cuts of any judgement                    sets/specs/Cores             33
+--   the bytes of a list, and lent bytes                sets/specs/Lists             53
+--   demand 3 for any judgement                         sets/specs/Demand3           49
+--   which list is meant                                cores/specs/Which             7
+--   what each call answers and writes                  codremif/specs/Answers      104
+--   an answer as one 64-bit number                     codremif/specs/Packing       43
+--   demand 2 for a text                                codremif/specs/Demand2       16
+--   demand 3 for a text                                codremif/specs/Demand3       89
+--   the starred examples                               codremif/specs/Examples     116
+use Prim.Native.Nat.{ℕ, _^_, _<_}
+use mathlib.Core.Path.{_≡_, sym, ap}
+use mathlib.Core.List.{List, List·Memᴰ}
+use Rattle.models.specs.declared.model.Outcome.the-variants.{Accepted}
+use Rattle.models.specs.Reading.{readModel}
+use Rattle.models.specs.Written.{Described, Legal, writtenModel, modelIn}
+use Rattle.models.specs.Laws.Written.{found-is-described, written-is-found}
+use Rattle.semantics.specs.Meaning.{systemOf}
+use Rattle.codremif.specs.declared.answers.ListAnswer.{ListAnswer}
+use Rattle.codremif.specs.declared.answers.MustAnswer.{MustAnswer}
+use Rattle.codremif.specs.Answers.{rulesIn, systemIn, textOutcome}
+use Rattle.codremif.specs.Demand2.{Demand2}
+use Rattle.codremif.specs.Demand3.{inRattle, forHosts, Asked, TextDemand3, AsCalled, hostAsked}
+use Rattle.codremif.specs.Examples.{Case, table, Answered}
+use Rattle.codremif.specs.Laws.Demand2.{judging-meets-demand2}
+use Rattle.codremif.specs.Laws.Examples.{table-answered}
+use Rattle.codremif.specs.Laws.Demand3.{calls-meet-demand3, hosts-meet-demand3}
+
+-- A text that is written from a legal model means what the model means: the runs of each set of rules are the model's.
+pub meaning : (M : Described) → Legal M → (S : ℕ) → systemIn (writtenModel M) S ≡ systemOf M S
+unfolding systemIn modelIn
+meaning M l S = ap (λ D. systemOf D S) (sym (found-is-described (writtenModel M) M (readModel (writtenModel M)) (written-is-found M l)))
+
+-- Demand 2: for every accepted text, every set of its rules and all lent bytes.
+pub demand2 : (text : List ℕ) → textOutcome text ≡ Accepted → (S : ℕ) → S < 2 ^ rulesIn text → (lent : List ℕ) → Demand2 text S lent
+demand2 = judging-meets-demand2
+
+-- Demand 3: for every accepted text, of whatever the three calls were lent and gave. It is the promise of `codremif::together::ask_all`.
+pub demand3 : (text : List ℕ) → textOutcome text ≡ Accepted → {a : Asked ListAnswer MustAnswer} → AsCalled text a → TextDemand3 inRattle text a
+demand3 = calls-meet-demand3
+
+-- The same of the exported calls, by their 64-bit answers and their lent bytes.
+pub demand3-hosts : (text : List ℕ) → textOutcome text ≡ Accepted → (coresLent cutsLent : List ℕ) → TextDemand3 forHosts text (hostAsked text coresLent cutsLent)
+demand3-hosts = hosts-meet-demand3
+
+-- The starred examples of document 01: for each case of the table the calls give what it says.
+pub examples : (c : Case) → List·Memᴰ c table → Answered c
+examples = table-answered

@@ -1,0 +1,7 @@
+-- The laws of this crate: what is proved of the definitions that stand one folder above.
+pub mod Answers
+pub mod Packing
+pub mod Host
+pub mod Demand2
+pub mod Demand3
+pub mod Examples

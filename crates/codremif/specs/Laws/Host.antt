@@ -1,0 +1,156 @@
+-- What a C host can read from the one number that a call gives it: every part of the answer, and by number 0 whether the call was accepted.
+-- From the ranges of the parts: a trace has at most 128 states, a list at most 2^16 sets, MUST is below 2^16; and from one bound on the numbers
+-- and lines of refusals, below 256. Assumes nothing.
+use Prim.Native.Nat.{ℕ, zero, suc, _*_, _^_, _≤_, _<_}
+use mathlib.Core.Path.{_≡_, refl}
+use mathlib.Core.Logic.{_↔_}
+use mathlib.Core.Bool.{Bool, true, false, cond}
+use mathlib.Core.List.{List}
+use native.Mathlib.Nat.{suc-mul}
+use native.Mathlib.Omega.{arith}
+use lib.Dec.{leb, ltb}
+use lib.ListN.{length, length-append}
+use lib.Pow.{pow-mono}
+use Rattle.sets.specs.Lists.{joined, oneIf, select, listOf, coresOf, cutsOf, bytesOf}
+use Rattle.sets.specs.Laws.Growth.{length-listOf}
+use Rattle.sets.specs.Laws.Must.{must-below}
+use Rattle.models.specs.declared.model.Outcome.{Outcome}
+use Rattle.models.specs.declared.model.Outcome.the-variants.{Accepted, Refused}
+use Rattle.models.specs.Reading.{readModel}
+use Rattle.models.specs.Laws.Ranges.{Refusal, ranges}
+use Rattle.systems.specs.Verdict.{holds, traceOf}
+use Rattle.systems.specs.Judged.{judged}
+use Rattle.semantics.specs.Meaning.{systemOf}
+use Rattle.cores.specs.declared.which.WhichList.{WhichList}
+use Rattle.cores.specs.declared.which.WhichList.the-variants.{Cores, Cuts}
+use Rattle.cores.specs.Which.{listed}
+use Rattle.codremif.specs.declared.answers.JudgeAnswer.the-variants.{Refused as JudgeRefused, Holds, Broken}
+use Rattle.codremif.specs.declared.answers.ListAnswer.the-variants.{Refused as ListRefused}
+use Rattle.codremif.specs.declared.answers.MustAnswer.the-variants.{Refused as MustRefused}
+use Rattle.codremif.specs.Answers.{rulesIn, systemIn, judgeIn, traceIn, listIn, mustIn, _orElse_, refusedIf, textOutcome, judgeOutcome, listOutcome, given, verdictOf, judgeAnswer, listAnswer, mustAnswer}
+use Rattle.codremif.specs.Packing.{InRange, Parts, accepted, refused, judgeParts, listParts, mustParts, packed, Unpacked}
+use Rattle.codremif.specs.Laws.Answers.{vars-most, rules-most}
+use Rattle.codremif.specs.Laws.Packing.{unpacked}
+
+-- ---- the numbers and lines of refusals
+
+-- No refusal, or one with a number from 1 on, and both the number and the line below 256.
+data Numbered : Outcome → Type 0 where
+  none : Numbered Accepted
+  one : {number line : ℕ} → 1 ≤ number → number < 256 → line < 256 → Numbered (Refused number line)
+
+text-numbered : (text : List ℕ) → Numbered (textOutcome text)
+unfolding textOutcome
+text-numbered text = go (readModel text .outcome) refl
+  where
+    go : (o : Outcome) → readModel text .outcome ≡ o → Numbered o
+    go Accepted e = none
+    go (Refused number line) e =
+        let r : Refusal number line = ranges text .refusal number line e in
+        one {number = number} {line = line} (r .least) (omega (arith, r .most)) (omega (arith, r .lastLine))
+
+refusedIf-numbered : (b : Bool) (number : ℕ) → 1 ≤ number → number < 256 → Numbered (refusedIf b number)
+unfolding refusedIf
+refusedIf-numbered true number l h = one {line = 0} l h (omega arith)
+refusedIf-numbered false number l h = none
+
+orElse-numbered : {o next : Outcome} → Numbered o → Numbered next → Numbered (o orElse next)
+unfolding _orElse_
+orElse-numbered none n = n
+orElse-numbered (one l h g) n = one l h g
+
+judge-numbered : (text : List ℕ) (S : ℕ) (lent : List ℕ) → Numbered (judgeOutcome text S lent)
+unfolding judgeOutcome
+judge-numbered text S lent =
+    orElse-numbered (text-numbered text)
+    (orElse-numbered (refusedIf-numbered (leb (2 ^ rulesIn text) S) 10 (omega arith) (omega arith))
+    (refusedIf-numbered (ltb (length lent) (length (traceIn text S))) 11 (omega arith) (omega arith)))
+
+list-numbered : (which : WhichList) (text lent : List ℕ) → Numbered (listOutcome which text lent)
+unfolding listOutcome
+list-numbered which text lent =
+    orElse-numbered (text-numbered text)
+    (refusedIf-numbered (ltb (length lent) (length (bytesOf (listIn which text)))) 11 (omega arith) (omega arith))
+
+-- ---- the lengths, counts and sets
+
+pub trace-le : (text : List ℕ) (S : ℕ) → length (traceIn text S) ≤ 128
+unfolding traceIn systemIn systemOf
+trace-le text S =
+    let h : length (traceOf (systemIn text S)) ≤ systemIn text S .size = judged (systemIn text S) .at-most-size in
+    omega (arith, pow-mono (vars-most text))
+
+joined-length : (g : ℕ → List ℕ) (most : ℕ) → ((k : ℕ) → length (g k) ≤ most) → (n : ℕ) → length (joined g n) ≤ n * most
+unfolding joined
+joined-length g most h zero = omega arith
+joined-length g most h (suc n) =
+    omega (arith, joined-length g most h n, h n, length-append (joined g n) (g n), suc-mul n most)
+
+select-length : (q : ℕ → Bool) (n : ℕ) → length (select q n) ≤ n
+unfolding select
+select-length q n = omega (arith, joined-length (λ S. oneIf (q S) S) 1 (λ S. at-most (q S) S) n)
+  where
+    at-most : (b : Bool) (S : ℕ) → length (oneIf b S) ≤ 1
+    at-most true S = omega arith
+    at-most false S = omega arith
+
+list-length : (R : ℕ) (q : ℕ → Bool) → R ≤ 16 → length (listOf R q) ≤ 65536
+list-length R q h = omega (arith, length-listOf R q, select-length q (2 ^ R), pow-mono h)
+
+pub list-le : (which : WhichList) (text : List ℕ) → length (listIn which text) ≤ 65536
+unfolding listIn listed coresOf cutsOf
+list-le Cores text = list-length (rulesIn text) _ (rules-most text)
+list-le Cuts text = list-length (rulesIn text) _ (rules-most text)
+
+pub must-lt : (text : List ℕ) → mustIn text < 2 ^ rulesIn text
+unfolding mustIn
+must-lt text = must-below (rulesIn text) (judgeIn text)
+
+-- ---- what the host reads
+
+-- The parts p of an answer whose call has the outcome o: number 0 exactly if the call is accepted, each part fits its place, and so the packed
+-- number gives each part back.
+pub record HostReads (o : Outcome) (p : Parts) : Type 0 where
+  pub zero : (p .number ≡ 0) ↔ (o ≡ Accepted)
+  pub range : InRange p
+  pub parts : Unpacked p (packed p)
+
+refused-reads : (number line : ℕ) → 1 ≤ number → number < 256 → line < 256 → HostReads (Refused number line) (refused number line)
+unfolding refused
+refused-reads number line l h g = record {
+  zero = (λ e. absurd (omega arith), λ e. cc);
+  range = omega arith;
+  parts = unpacked (refused number line) (omega arith);
+}
+
+accepted-reads : (amount : ℕ) (b : Bool) → amount < 2 ^ 24 → HostReads Accepted (accepted amount b)
+unfolding accepted
+accepted-reads amount b h = record { zero = (λ _. refl, λ _. refl); range = omega arith; parts = unpacked (accepted amount b) (omega arith) }
+
+-- For every call: the parts of a refusal are its number and line, and those of the answer fit.
+given-reads : {A : Type 0} (refuse : ℕ → ℕ → A) (parts : A → Parts) → ((number line : ℕ) → parts (refuse number line) ≡ refused number line)
+    → (a : A) → HostReads Accepted (parts a) → {o : Outcome} → Numbered o → HostReads o (parts (given refuse o a))
+unfolding given
+given-reads refuse parts told a reads none = reads
+given-reads refuse parts told a reads (one {number} {line} l h g) = rw (told number line) (refused-reads number line l h g)
+
+pub judge-reads : (text : List ℕ) (S : ℕ) (lent : List ℕ) → HostReads (judgeOutcome text S lent) (judgeParts (judgeAnswer text S lent))
+unfolding judgeAnswer judgeParts verdictOf traceIn
+judge-reads text S lent =
+    given-reads JudgeRefused judgeParts (λ number line. refl) _ (go (holds (systemIn text S))) (judge-numbered text S lent)
+  where
+    go : (b : Bool) → HostReads Accepted (judgeParts (cond b Holds (Broken (length (traceOf (systemIn text S))))))
+    go true = accepted-reads 0 true (omega arith)
+    go false = accepted-reads (length (traceOf (systemIn text S))) false (omega (arith, trace-le text S))
+
+pub list-reads : (which : WhichList) (text lent : List ℕ) → HostReads (listOutcome which text lent) (listParts (listAnswer which text lent))
+unfolding listAnswer listParts
+list-reads which text lent =
+    given-reads ListRefused listParts (λ number line. refl) _
+    (accepted-reads (length (listIn which text)) false (omega (arith, list-le which text))) (list-numbered which text lent)
+
+pub must-reads : (text : List ℕ) → HostReads (textOutcome text) (mustParts (mustAnswer text))
+unfolding mustAnswer mustParts
+must-reads text =
+    given-reads MustRefused mustParts (λ number line. refl) _
+    (accepted-reads (mustIn text) false (omega (arith, must-lt text, pow-mono (rules-most text)))) (text-numbered text)

@@ -1,0 +1,6 @@
+// Which of the two lists is meant.
+
+pub enum WhichList {
+    Cores,
+    Cuts,
+}

@@ -1,0 +1,76 @@
+-- `lines::expressions::fault_in` meets its contract: at each way out, the tests that led there pick the case of `faultOf`.
+-- Assumes nothing.
+use Prim.Native.Nat.{ℕ, _≤_, _<_}
+use mathlib.Core.Path.{_≡_, sym, _∙_}
+use mathlib.Core.Bool.{Bool, true, false, and-false}
+use mathlib.Core.List.{List}
+use native.Mathlib.Omega.{arith}
+use borrow.Author.Needs.{needs}
+use borrow.Author.Tests.{le-leb, lt-leb, eq-eqb, ne-eqb}
+use lib.Dec.{leb}
+use lib.ListN.{length}
+use Rattle.lines.specs.declared.classes.Class.{Class}
+use Rattle.lines.specs.declared.classes.Class.the-variants.{InExpression, Allowed}
+use Rattle.lines.specs.Bytes.{prefix}
+use Rattle.lines.specs.Lines.{all, isOne, faultOf}
+use Rattle.lines.proofs.expressions.fault_in.Statement.{statement}
+use Rattle.lines.proofs.expressions.fault_in.Tie as tie
+
+module _ (vars : ℕ) (capitals : Bool) (e : List ℕ) where
+  too-short : length e ≡ 0 → 5 ≡ faultOf vars capitals e
+  unfolding faultOf
+  too-short h = rw (lt-leb 1 (length e) (omega arith))
+
+  too-long : 64 < length e → 5 ≡ faultOf vars capitals e
+  unfolding faultOf
+  too-long h = rw (lt-leb (length e) 64 h, and-false (leb 1 (length e)))
+
+  module _ (low : 1 ≤ length e) (high : length e ≤ 64) where
+    wrong-byte : all InExpression e ≡ false → 6 ≡ faultOf vars capitals e
+    unfolding faultOf
+    wrong-byte q = rw (le-leb 1 (length e) low, le-leb (length e) 64 high, q)
+
+    module _ (bytes : all InExpression e ≡ true) where
+      wrong-letter : all (Allowed vars capitals) e ≡ false → 7 ≡ faultOf vars capitals e
+      unfolding faultOf
+      wrong-letter q = rw (le-leb 1 (length e) low, le-leb (length e) 64 high, bytes, q)
+
+      module _ (letters : all (Allowed vars capitals) e ≡ true) where
+        right : isOne e ≡ true → 0 ≡ faultOf vars capitals e
+        unfolding faultOf
+        right q = rw (le-leb 1 (length e) low, le-leb (length e) 64 high, bytes, letters, q)
+
+        not-one : isOne e ≡ false → 8 ≡ faultOf vars capitals e
+        unfolding faultOf
+        not-one q = rw (le-leb 1 (length e) low, le-leb (length e) 64 high, bytes, letters, q)
+
+all-in : (k : Class) (e : List ℕ) (n : ℕ) → n ≡ prefix k e → n ≡ length e → all k e ≡ true
+unfolding all
+all-in k e n p h = eq-eqb (prefix k e) (length e) (sym p ∙ h)
+
+not-all : (k : Class) (e : List ℕ) (n : ℕ) → n ≡ prefix k e → (n ≡ length e → ⊥) → all k e ≡ false
+unfolding all
+not-all k e n p h = ne-eqb (prefix k e) (length e) (λ q. h (p ∙ q))
+
+pub fault-in-spec : {M : Type 1} → statement M
+fault-in-spec =
+    tie.close
+    (tie.spec
+    (λ c. too-short _ _ _ (omega arith))
+    (λ c. too-long _ _ _ (c .if2 .taken))
+    (λ c κs. search needs)
+    (λ c. wrong-byte _ _ _ (omega arith) (omega arith) (not-all _ _ _ (c .before .prefix-of .ensures) (c .if3 .taken)))
+    (λ c κs. search needs)
+    (λ c.
+    let d = c .before .before .before in
+    wrong-letter _ _ _ (omega arith) (omega arith) (all-in _ _ _ (d .prefix-of .ensures) (c .before .before .if3 .left))
+    (not-all _ _ _ (c .before .prefix-of2 .ensures) (c .if4 .taken)))
+    (λ c κs. search needs)
+    (λ c.
+    let d = c .before .before .before .before .before in
+    right _ _ _ (omega arith) (omega arith) (all-in _ _ _ (d .prefix-of .ensures) (c .before .before .before .before .if3 .left))
+    (all-in _ _ _ (c .before .before .before .prefix-of2 .ensures) (c .before .before .if4 .left)) (sym (c .before .is-one .ensures) ∙ c .if5 .taken))
+    (λ c.
+    let d = c .before .before .before .before .before in
+    not-one _ _ _ (omega arith) (omega arith) (all-in _ _ _ (d .prefix-of .ensures) (c .before .before .before .before .if3 .left))
+    (all-in _ _ _ (c .before .before .before .prefix-of2 .ensures) (c .before .before .if4 .left)) (sym (c .before .is-one .ensures) ∙ c .if5 .left)))

@@ -1,0 +1,6 @@
+-- What is proved of the definitions of this crate.
+pub mod Bytes
+pub mod Decimal
+pub mod Expressions
+pub mod Heard
+pub mod Lines

@@ -1,0 +1,95 @@
+-- Laws of classes of bytes and of equal texts: what a prefix ends at, which lists are in a class throughout, and that `same` tells equal lists.
+-- From the definitions of `Bytes` and `all` of `Lines`, by induction on the lists.
+use Prim.Native.Nat.{ℕ, suc, _+_, _<_}
+use mathlib.Core.Path.{_≡_, refl, sym, ap, ap₂, _∙_}
+use mathlib.Core.Bool.{Bool, true, false, cond, not, _&&_, and-assoc, and-eq-true-iff, false≢true}
+use mathlib.Mathlib.Data.Bool.Basic.{eq-false-of-not-eq-true}
+use mathlib.Core.List.{List, [], _∷_, _++_}
+use native.Mathlib.Omega.{arith}
+use borrow.Author.Tests.{eq-eqb, ne-eqb, eqb-true}
+use lib.Dec.{eqb, eqb·suc-suc, eqb·zero-suc}
+use lib.ListN.{length, getD, take}
+use Rattle.sets.specs.Laws.Choice.{by-test}
+use Rattle.lines.specs.declared.classes.Class.{Class}
+use Rattle.lines.specs.declared.classes.Class.the-variants.{InLine}
+use Rattle.lines.specs.Bytes.{belongs, prefix, same}
+use Rattle.lines.specs.Lines.{all}
+
+-- ---- lists that are in a class throughout
+
+pub all-nil : (c : Class) → all c [] ≡ true
+unfolding all prefix
+all-nil c = refl
+
+all-cons : (c : Class) (b : ℕ) (s : List ℕ) → all c (b ∷ s) ≡ (belongs c b && all c s)
+unfolding all prefix
+all-cons c b s = go (belongs c b)
+  where
+    go : (t : Bool) → eqb (cond t (suc (prefix c s)) 0) (suc (length s)) ≡ (t && eqb (prefix c s) (length s))
+    go true = eqb·suc-suc (prefix c s) (length s)
+    go false = eqb·zero-suc (length s)
+
+pub all-append : (c : Class) (s t : List ℕ) → all c (s ++ t) ≡ (all c s && all c t)
+all-append c [] t = ap (λ x. x && all c t) (sym (all-nil c))
+all-append c (b ∷ s) t =
+    all-cons c b (s ++ t) ∙ ap (λ x. belongs c b && x) (all-append c s t) ∙ sym (and-assoc (belongs c b) (all c s) (all c t)) ∙ ap (λ x. x && all c t) (sym (all-cons c b s))
+
+-- the first byte and the others
+pub all-parts : (c : Class) (b : ℕ) (s : List ℕ) → all c (b ∷ s) ≡ true → (belongs c b ≡ true) × (all c s ≡ true)
+all-parts c b s e = and-eq-true-iff (belongs c b) (all c s) .0 (sym (all-cons c b s) ∙ e)
+
+pub all-more : (c : Class) (b : ℕ) (s : List ℕ) → belongs c b ≡ true → all c s ≡ true → all c (b ∷ s) ≡ true
+all-more c b s p q = all-cons c b s ∙ ap₂ _&&_ p q
+
+-- a class without byte 10 is within a line
+in-line : (c : Class) (b : ℕ) → belongs c 10 ≡ false → belongs c b ≡ true → belongs InLine b ≡ true
+unfolding belongs
+in-line c b f p = ap not (ne-eqb b 10 (λ q. false≢true (sym f ∙ ap (belongs c) (sym q) ∙ p)))
+
+pub all-in-line : (c : Class) → belongs c 10 ≡ false → (s : List ℕ) → all c s ≡ true → all InLine s ≡ true
+all-in-line c f [] e = all-nil InLine
+all-in-line c f (b ∷ s) e = let h = all-parts c b s e in all-more InLine b s (in-line c b f (h .0)) (all-in-line c f s (h .1))
+
+-- ---- the prefix of a class
+
+pub prefix-all : (c : Class) (s t : List ℕ) → all c s ≡ true → prefix c (s ++ t) ≡ length s + prefix c t
+unfolding prefix
+prefix-all c [] t e = omega arith
+prefix-all c (b ∷ s) t e = let h = all-parts c b s e in rw (h .0) (omega (arith, prefix-all c s t (h .1)))
+
+-- a prefix ends at a byte outside the class
+pub prefix-seam : (c : Class) (s : List ℕ) (b : ℕ) (t : List ℕ) → all c s ≡ true → belongs c b ≡ false → prefix c (s ++ b ∷ t) ≡ length s
+unfolding prefix
+prefix-seam c s b t e f = prefix-all c s (b ∷ t) e ∙ rw f (omega arith)
+
+pub all-prefix : (c : Class) (s : List ℕ) → all c (take (prefix c s) s) ≡ true
+unfolding prefix
+all-prefix c [] = all-nil c
+all-prefix c (b ∷ s) =
+    by-test (λ k. all c (take k (b ∷ s)) ≡ true) (belongs c b) (λ p. all-more c b (take (prefix c s) s) p (all-prefix c s)) (λ _. all-nil c)
+
+pub prefix-ends : (c : Class) (s : List ℕ) → prefix c s < length s → belongs c (getD s (prefix c s) 0) ≡ false
+unfolding prefix
+prefix-ends c [] = λ h. absurd (omega arith)
+prefix-ends c (b ∷ s) =
+    by-test (λ k. k < suc (length s) → belongs c (getD (b ∷ s) k 0) ≡ false) (belongs c b) (λ p h. prefix-ends c s (omega arith)) (λ p _. p)
+
+-- ---- equal lists
+
+same-self : (l : List ℕ) → same l l ≡ true
+unfolding same
+same-self [] = refl
+same-self (x ∷ l) = ap₂ _&&_ (eq-eqb x x refl) (same-self l)
+
+pub same-true : (a b : List ℕ) → a ≡ b → same a b ≡ true
+same-true a b e = ap (same a) (sym e) ∙ same-self a
+
+pub same-is : (a b : List ℕ) → same a b ≡ true → a ≡ b
+unfolding same
+same-is [] [] e = refl
+same-is [] (y ∷ b) e = absurd (false≢true e)
+same-is (x ∷ a) [] e = absurd (false≢true e)
+same-is (x ∷ a) (y ∷ b) e = let h = and-eq-true-iff (eqb x y) (same a b) .0 e in ap₂ _∷_ (eqb-true x y (h .0)) (same-is a b (h .1))
+
+pub same-false : (a b : List ℕ) → (a ≡ b → ⊥) → same a b ≡ false
+same-false a b n = eq-false-of-not-eq-true (λ q. n (same-is a b q))

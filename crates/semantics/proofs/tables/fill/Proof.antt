@@ -1,0 +1,68 @@
+-- `semantics::tables::fill` meets its contract: what is read at the places of the text are the masks and tables of the model that it tells.
+-- Assumes nothing.
+use Prim.Native.Nat.{ℕ, _^_, _≤_}
+use mathlib.Core.Path.{_≡_, sym, ap, ap₂, _∙_, fun-ext}
+use mathlib.Core.Bool.{Bool, true, false, Bool·beq}
+use mathlib.Core.List.{List}
+use native.Mathlib.Omega.{arith}
+use borrow.Author.Needs.{needs}
+use lib.ListN.{length}
+use Rattle.models.specs.declared.model.Model.{Model}
+use Rattle.models.specs.Written.{described}
+use Rattle.systems.specs.declared.tables.Tables.{Tables}
+use Rattle.semantics.specs.TablesOf.{pairsOf, masksOf, marksOf, tablesOf}
+use Rattle.semantics.specs.Places.{meets, maskBy}
+use Rattle.semantics.specs.Laws.TablesOf.{states-le, length-pairs}
+use Rattle.models.specs.Laws.Written.{described-count}
+use Rattle.semantics.specs.Laws.Places.{start-described, bad-described, mask-described}
+use Rattle.semantics.proofs.tables.fill.Statement.{statement}
+use Rattle.semantics.proofs.tables.fill.Tie as tie
+
+-- Tables with equal fields.
+made : {rules rules₁ states states₁ : ℕ} {start start₁ bad bad₁ : List Bool} → rules ≡ rules₁ → states ≡ states₁ → start ≡ start₁ → bad ≡ bad₁
+    → _≡_ {A = Tables} (record { rules = rules; states = states; start = start; bad = bad }) (record { rules = rules₁; states = states₁; start = start₁; bad = bad₁ })
+made p q r s = cc
+
+module _ (text : List ℕ) (m : Model) {states : ℕ} (e : states ≡ 2 ^ m .vars) where
+  tables-are : {start bad : List Bool}
+      → start ≡ marksOf states (λ s. Bool·beq (meets text (m .init) s s) true) → bad ≡ marksOf states (λ s. Bool·beq (meets text (m .prop) s s) false)
+      → _≡_ {A = Tables} (record { rules = m .rules; states = states; start = start; bad = bad }) (tablesOf (described text m))
+  unfolding tablesOf described
+  tables-are p q =
+      made (sym (described-count text m)) e (p ∙ ap₂ marksOf e (fun-ext (start-described text m))) (q ∙ ap₂ marksOf e (fun-ext (bad-described text m)))
+
+  masks-are : (before : List ℕ) {masks : List ℕ} → masks ≡ pairsOf before states states (maskBy text (m .steps) (m .rules)) → masks ≡ masksOf before (described text m)
+  unfolding masksOf described
+  masks-are before p = p ∙ ap₂ (λ n f. pairsOf before n n f) e (mask-described text m)
+
+-- The number of states is known, and then the masks are filled.
+abbrev counted : tie.After-slice-known2 → tie.After-state-count
+counted p = p .before .before .before .before .before .before
+
+abbrev start : tie.After-state-count → tie.Start
+start p = p .before .before .before
+
+small : (n : tie.After-state-count) → n .state-count .result ≤ 128
+small n = omega (arith, n .state-count .ensures, states-le (start n .args .m .vars) (start n .pre .vars))
+
+pub fill-spec : {M : Type 1} → statement M
+fill-spec =
+    tie.close
+    (tie.spec
+    (λ c κs. c .before .before .pre .vars)
+    (λ c κs.
+    let n = c .before .before .before in
+    let p = start n .pre in record {
+      entries = record { size = search needs; few = p .rules };
+      few = small n;
+      room = omega (arith, n .state-count .ensures, p .room);
+    })
+    (λ c κs. small (counted c))
+    (λ c κs. small (counted (c .before)))
+    (λ c. ap length (c .before .before .before .before .fill-masks .ensures) ∙ length-pairs _ _ _ _)
+    (λ c.
+    let n = counted (c .before .before) in
+    let a = start n .args in (
+      tables-are (a .text .now) (a .m) (n .state-count .ensures) (c .before .marks-of .ensures) (c .marks-of2 .ensures),
+      masks-are (a .text .now) (a .m) (n .state-count .ensures) (a .masks .now) (c .before .before .before .before .fill-masks .ensures),
+    )))

@@ -1,0 +1,5 @@
+-- What is proved of the definitions.
+pub mod Meaning
+pub mod TablesOf
+pub mod Places
+pub mod Filled

@@ -1,0 +1,108 @@
+-- What stands at single places of the text is the model that the text tells: the rules, the start states, the bad states and the masks; and the
+-- bits that the words of the rules have at a place make the mask of that pair. From the laws of lists and of sets as numbers. Assumes nothing.
+use Prim.Native.Nat.{ℕ, _+_, _*_, _/_, _%_, _≤_, _<_}
+use mathlib.Core.Path.{_≡_, refl, sym, ap, _∙_, fun-ext}
+use mathlib.Core.Bool.{Bool, true, false, not, Bool·beq, cond}
+use mathlib.Core.List.{List}
+use mathlib.Core.Option.{Option, none, some}
+use native.Mathlib.Omega.{arith}
+use borrow.Author.Tests.{lt-ltb, le-ltb}
+use lib.Dec.{ltb}
+use lib.ListN.{length, getD, set, replicate, drop}
+use Rattle.sets.specs.Bit.{has}
+use Rattle.sets.specs.Gathered.{setOf}
+use Rattle.sets.specs.Laws.Gathered.{has-setOf, setOf-same, setOf-none}
+use Rattle.sets.specs.Laws.Tabulated.{length-tabulate, getD-tabulate, all-alike, one-stored, below-next}
+use Rattle.exprs.specs.declared.words.Worded.{Worded}
+use Rattle.exprs.specs.declared.words.Worded.the-variants.{Word, NoWord}
+use Rattle.exprs.specs.Expr.{Expr, value}
+use Rattle.exprs.specs.Reading.{readExpr}
+use Rattle.exprs.specs.Answers.{wordsIn, wordsOf}
+use Rattle.models.specs.declared.model.Model.{Model}
+use Rattle.models.specs.Written.{orFalse, exprAt, ruleIn, described}
+use Rattle.models.specs.Laws.Written.{described-count, described-rule}
+use Rattle.semantics.specs.Meaning.{startOf, badOf, ruleMet}
+use Rattle.semantics.specs.TablesOf.{maskOf}
+use Rattle.semantics.specs.Places.{meets, maskBy, wordAt, wordTable}
+
+-- ---- the model that the text tells
+
+module _ (text : List ℕ) (m : Model) where
+  -- A test whether `init` is true marks the start states, and one whether `prop` is false the bad states.
+  pub start-described : (s : ℕ) → Bool·beq (meets text (m .init) s s) true ≡ startOf (described text m) s
+  unfolding described meets startOf
+  start-described s = is-true (value (exprAt text (m .init)) s s)
+    where
+      is-true : (b : Bool) → Bool·beq b true ≡ b
+      is-true true = refl
+      is-true false = refl
+
+  pub bad-described : (s : ℕ) → Bool·beq (meets text (m .prop) s s) false ≡ badOf (described text m) s
+  unfolding described meets badOf
+  bad-described s = is-false (value (exprAt text (m .prop)) s s)
+    where
+      is-false : (b : Bool) → Bool·beq b false ≡ not b
+      is-false true = refl
+      is-false false = refl
+
+  -- The masks are those of the rules at their places.
+  pub mask-described : maskBy text (m .steps) (m .rules) ≡ maskOf (described text m)
+  unfolding maskBy maskOf meets ruleMet ruleIn
+  mask-described = fun-ext (λ s. fun-ext (λ t. at s t))
+    where
+      at : (s t : ℕ) → maskBy text (m .steps) (m .rules) s t ≡ maskOf (described text m) s t
+      at s t =
+          setOf-same (m .rules) _ (λ i. ruleMet (described text m) i s t) (λ i h. ap (λ r. value (r .step) s t) (sym (described-rule text m i h)))
+          ∙ ap (λ (n : ℕ). setOf n (λ i. ruleMet (described text m) i s t)) (sym (described-count text m))
+
+-- ---- an answer of `exprs::words::words`
+
+-- The word of an answer; where nothing can be read, no state meets it.
+abbrev pub wordIn : Worded → ℕ
+wordIn (Word w bytes) = w
+wordIn NoWord = 0
+
+pub words-meet : (text : List ℕ) (place s block : ℕ) → wordIn (wordsOf (drop place text) s block) ≡ wordAt text place s block
+unfolding wordsOf wordsIn wordAt meets exprAt orFalse value
+words-meet text place s block = go (readExpr (drop place text))
+  where
+    go : (o : Option Expr) → wordIn (wordsIn s block o) ≡ setOf 64 (λ t. value (orFalse o) s (64 * block + t))
+    go none = setOf-none 64
+    go (some e) = refl
+
+-- One bit of it is the value at one next state.
+pub bit-meets : (text : List ℕ) (place s t : ℕ) → has (wordAt text place s (t / 64)) (t % 64) ≡ meets text place s t
+unfolding wordAt
+bit-meets text place s t =
+    let whole : 64 * (t / 64) + t % 64 ≡ t = omega arith in
+    has-setOf 64 (λ u. meets text place s (64 * (t / 64) + u)) (t % 64) (omega arith) ∙ ap (meets text place s) whole
+
+-- ---- the words of the rules
+
+module _ (text steps : List ℕ) (s block : ℕ) where
+  pub length-words : (n : ℕ) → length (wordTable text steps s block n) ≡ 16
+  unfolding wordTable
+  length-words n = length-tabulate 16 (λ i. cond (ltb i n) (wordAt text (getD steps i 0) s block) 0)
+
+  pub no-words : replicate 16 0 ≡ wordTable text steps s block 0
+  unfolding wordTable
+  no-words = all-alike 16 0 (λ i. cond (ltb i 0) (wordAt text (getD steps i 0) s block) 0) (λ i _. rw (le-ltb i 0 (omega arith)))
+
+  pub one-word : (i : ℕ) → i < 16 → set (wordTable text steps s block i) i (wordAt text (getD steps i 0) s block) ≡ wordTable text steps s block (i + 1)
+  unfolding wordTable
+  one-word i h =
+      ap (set (wordTable text steps s block i) i) (rw (lt-ltb i (i + 1) (omega arith)))
+      ∙ one-stored 16 (λ j. cond (ltb j i) (wordAt text (getD steps j 0) s block) 0)
+      (λ j. cond (ltb j (i + 1)) (wordAt text (getD steps j 0) s block) 0) i h
+      (λ j n. ap (λ b. cond b (wordAt text (getD steps j 0) s block) 0) (below-next j i n))
+
+  -- Bit t of each word.
+  pub words-mask : (rules t : ℕ) → t < 64 → rules ≤ 16
+      → setOf rules (λ i. has (getD (wordTable text steps s block rules) i 0) t) ≡ maskBy text steps rules s (64 * block + t)
+  unfolding maskBy wordTable wordAt
+  words-mask rules t h few =
+      setOf-same rules _ _
+      (λ i l.
+      ap (λ (w : ℕ). has w t)
+      (getD-tabulate 16 (λ i. cond (ltb i rules) (wordAt text (getD steps i 0) s block) 0) 0 i (omega arith) ∙ rw (lt-ltb i rules l))
+      ∙ has-setOf 64 (λ t. meets text (getD steps i 0) s (64 * block + t)) t h)

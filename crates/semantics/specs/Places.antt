@@ -1,0 +1,59 @@
+-- What code reads at single places of the text: whether two states meet the expression there, and its values at 64 next states at once, one
+-- bit each. `Rattle.semantics.specs.Laws.Places` joins this to the model that the text tells. Assumes nothing: these are definitions.
+use Prim.Native.Nat.{ℕ, _+_, _*_, _≤_, _<_}
+use mathlib.Core.Path.{_≡_}
+use mathlib.Core.Bool.{Bool, cond}
+use mathlib.Core.List.{List}
+use lib.Dec.{ltb}
+use lib.ListN.{length, getD}
+use Rattle.sets.specs.Gathered.{setOf}
+use Rattle.sets.specs.Tabulated.{tabulate}
+use Rattle.exprs.specs.Expr.{value}
+use Rattle.models.specs.Written.{exprAt}
+
+-- ---- at two states
+
+-- The states s and t, one second later, meet the expression that stands at a place of the text.
+unfoldable pub meets : List ℕ → ℕ → ℕ → ℕ → Bool
+unfolding value exprAt
+meets text place s t = value (exprAt text place) s t
+
+-- The set of the rules that a pair of states meets, where rule i stands at the place `steps` i of the text.
+unfoldable pub maskBy : (text steps : List ℕ) (rules : ℕ) → ℕ → ℕ → ℕ
+unfolding setOf meets
+maskBy text steps rules s t = setOf rules (λ i. meets text (getD steps i 0) s t)
+
+-- ---- at 64 next states
+
+-- The expression at a place of the text at the state now and the next states 64 * block and the 63 after it.
+unfoldable pub wordAt : List ℕ → ℕ → ℕ → ℕ → ℕ
+unfolding setOf meets
+wordAt text place s block = setOf 64 (λ t. meets text place s (64 * block + t))
+
+-- The words of the first n rules; 16 entries, 0 from n on.
+unfoldable pub wordTable : (text steps : List ℕ) → ℕ → ℕ → ℕ → List ℕ
+unfolding wordAt
+wordTable text steps s block n = tabulate 16 (λ i. cond (ltb i n) (wordAt text (getD steps i 0) s block) 0)
+
+-- ---- what is lent
+
+-- The places of the rules stand in 16 entries, and so do their words.
+pub record RuleEntries (entries : List ℕ) (rules : ℕ) : Type 0 where
+  pub size : length entries ≡ 16
+  pub few : rules ≤ 16
+
+-- A part of the masks for so many states at most.
+pub record Fillable (steps : List ℕ) (rules most : ℕ) (part : List ℕ) : Type 0 where
+  pub entries : RuleEntries steps rules
+  pub short : length part ≤ most
+
+-- All masks of so many states.
+pub record AllFillable (steps : List ℕ) (rules states : ℕ) (masks : List ℕ) : Type 0 where
+  pub entries : RuleEntries steps rules
+  pub few : states ≤ 128
+  pub room : 128 * states ≤ length masks
+
+-- The words of the rules at the states from t on.
+pub record FromState (words : List ℕ) (rules t : ℕ) : Type 0 where
+  pub entries : RuleEntries words rules
+  pub state : t < 64

@@ -1,0 +1,4 @@
+// What a model and a rule set mean, as tables: the masks of the pairs of states and the marks of the states, filled from the text.
+mod masks;
+pub mod tables;
+mod values;

@@ -1,0 +1,50 @@
+// The masks and tables of a model, computed once from its text.
+ghost use mathlib.Core.Path.{_≡_};
+ghost use mathlib.Core.Bool.{Bool·beq};
+ghost use Prim.Native.Nat.{_^_, _≤_};
+ghost use Rattle.models.specs.Written.{described};
+ghost use Rattle.semantics.specs.TablesOf.{marksOf, masksOf, tablesOf, RoomFor};
+ghost use Rattle.semantics.specs.Places.{meets};
+use models::model::Model;
+use systems::tables::Tables;
+
+// How many states a model of `vars` letters has.
+fn state_count(vars: usize) -> usize
+    requires { ⌜ vars ≤ 7 ⌝ }
+    ensures { λ r. ⌜ r ≡ 2 ^ vars ⌝ }
+{
+    1 << vars
+}
+
+// The marks of the states at which the expression at a place has the wanted value.
+fn marks_of(text: &[u8], place: usize, states: usize, wanted: bool) -> [bool; 128]
+    requires { ⌜ states ≤ 128 ⌝ }
+    ensures { λ r. ⌜ r ≡ marksOf states (λ s. Bool·beq (meets (now (text .entry)) place s s) wanted) ⌝ }
+{
+    let mut marks = [false; 128];
+    let mut s = 0;
+    while s < states {
+        marks[s] = crate::values::is_met(text, place, s, s) == wanted;
+        s += 1;
+    }
+    marks
+}
+
+// The masks and tables of the model that stands at the places m of the text.
+pub fn fill(text: &[u8], m: Model, masks: &mut [u16]) -> Tables
+    requires { ⌜ RoomFor m (now masks) ⌝ }
+    ensures { λ r. ⌜ r ≡ tablesOf (described (now (text .entry)) m) ⌝ }
+    ensures { λ _. ⌜ now (masks .exit) ≡ masksOf (now (masks .entry)) (described (now (text .entry)) m) ⌝ }
+{
+    let states = state_count(m.vars);
+    let steps = m.steps;
+    crate::masks::fill_masks(text, &steps, m.rules, states, masks);
+    let start = marks_of(text, m.init, states, true);
+    let bad = marks_of(text, m.prop, states, false);
+    Tables {
+        rules: m.rules,
+        states,
+        start,
+        bad,
+    }
+}
