@@ -1,72 +1,134 @@
 /*
  * codremif: which rules keep a trigger unit quiet.
  *
- * The manual for a C programmer. Document 01 gives the meanings; this page repeats what a host needs.
+ * The manual for a C programmer. docs/FORMAT.md gives the meanings, with examples; this page
+ * repeats what a host needs. It is C99, and C++98 or later.
  *
- * A model is a text: named Boolean rules over one second and the next, and one property. Four calls read it:
+ * A model is a text: named Boolean rules over one second and the next, and one property. Four
+ * calls read it:
  *
- *   codremif_judge   does a set of rules keep the property in every state that can be reached? If not: a shortest run to a bad state
+ *   codremif_judge   does a set of rules keep the property in every state that can be reached?
+ *                    If not: a shortest run to a bad state
  *   codremif_cores   every core: a set of rules that holds and has no proper part that holds
- *   codremif_cuts    every cut: a set of rules whose removal breaks the property, while no proper part of it does that
+ *   codremif_cuts    every cut: a set of rules whose removal breaks the property, while no
+ *                    proper part of it does that
  *   codremif_must    MUST: the rules that all cores have in common
  *
- * Build. `rt staticlib codremif` at the repository's top proves the library and writes target/staticlib/libcodremif.a, for x86-64 Linux:
+ * A fifth, codremif_version, tells which library is linked.
  *
- *   cc -Iinclude host.c target/staticlib/libcodremif.a
+ * Build. `rt staticlib codremif` at the repository's top proves the library and writes
+ *   target/staticlib/libcodremif.a, for x86-64 Linux:
+ *
+ *     cc -Iinclude host.c target/staticlib/libcodremif.a
  *
  *   hosts/c has a host; `make -C hosts/c` builds it and the library, into target/hosts-c/host.
+ *   The archive's code is position-independent, so a shared library can have it too.
+ *
+ * In short. With a text of `length` bytes at `text`:
+ *
+ *     uint8_t sets[CODREMIF_LIST_BYTES];
+ *     uint64_t answer = codremif_cores(text, length, sets, sizeof sets);
+ *     if (!codremif_accepted(answer))
+ *         ... codremif_number(answer), codremif_line(answer) and codremif_words say why ...
+ *     for (size_t i = 0; i < codremif_count(answer); i++)
+ *         ... codremif_set_at(sets, i) is a core: rule k is in it if bit k of it is set ...
  *
  * The model text. Lines, each ended by byte 10, in this order and with no others:
  *
- *   vars=N            one digit, 1 to 7: the number of bits in a state
- *   rules=R           1 to 16, no leading zero: the number of rules
- *   init=EXPRESSION   the start states
- *   prop=EXPRESSION   the property
- *   rule=NAME:EXPRESSION     R such lines; a name is 1 to 8 bytes from a-z and 0-9, and no two rules have the same
+ *   vars=N                one digit, 1 to 7: the number of bits in a state
+ *   rules=R               1 to 16, no leading zero: the number of rules
+ *   init=EXPRESSION       the start states
+ *   prop=EXPRESSION       the property
+ *   rule=NAME:EXPRESSION  R such lines; a name is 1 to 8 bytes from a-z and 0-9, and no two rules
+ *                         have the same
  *
- *   An expression has 1 to 64 bytes, operator first: 0 and 1; the first N of a to g (the bits now); in rules also the first N of A to G
- *   (the same bits one second later); ! takes one operand; &, |, > (implies) and = (alike) take two. The text is no C string: a byte 0 at
- *   its end is refused by 9.
+ *   An expression has 1 to 64 bytes, operator first: 0 and 1; the first N of a to g (the bits
+ *   now); in rules also the first N of A to G (the same bits one second later); ! takes one
+ *   operand; &, |, > (implies) and = (alike) take two. The text is no C string: a byte 0 at its
+ *   end is refused by 9.
+ *
+ *   Reading takes time linear in the text's length. No accepted text has more than
+ *   CODREMIF_TEXT_BYTES, so a host may turn a longer one away before it asks.
  *
  * Numbers.
  *
  *   A state is a number from 0 to 2^N - 1: bit a weighs 1, b 2, c 4, and so on up to g, 64.
- *   A set of rules is a number from 0 to 2^R - 1: the first rule in the text weighs 1, the next 2, and so on. Set 0 is empty, the full set
- *   is 2^R - 1.
- *   A trace is one byte for each state, from a start state to a bad one, both included: 1 to 2^N bytes. It is the shortest run that ends in
- *   a bad state; of several, the one with the smaller state number at the first place where they differ.
- *   A list (of cores or of cuts) has two bytes for each set, low byte first (codremif_set_at reads one), fewer rules first, then the
- *   smaller set number first. Each set stands in it once.
+ *   A set of rules is a number from 0 to 2^R - 1: the first rule in the text weighs 1, the next
+ *   2, and so on. Set 0 is empty, the full set is 2^R - 1 (codremif_full_set).
+ *   A trace is one byte for each state, from a start state to a bad one, both included: 1 to 2^N
+ *   bytes. It is the shortest run that ends in a bad state; of several, the one with the smaller
+ *   state number at the first place where they differ.
+ *   A list (of cores or of cuts) has two bytes for each set, low byte first (codremif_set_at
+ *   reads one), fewer rules first, then the smaller set number first. Each set stands in it once.
  *
- * Edges. If the full set is broken, there is no core, the one cut is set 0, and MUST is 0. If set 0 holds, it is the one core, there is no
- *   cut, and MUST is 0.
+ * Edges. The property holds if the full set does, and that is exactly when there is a core:
+ *   codremif_count of the cores is then 1 or more. If the full set is broken, there is no core,
+ *   the one cut is set 0, and MUST is 0. If set 0 holds, it is the one core, there is no cut, and
+ *   MUST is 0. So MUST 0 alone does not say which of these it is.
  *
- * Who owns what. The caller owns all memory. The text is only read. Lent bytes (`trace`, `sets`) are written from their start, and bytes past
- *   the trace or the list keep their content; what they held before makes no difference to an answer. No pointer is kept after the call.
- *   The calls need no alignment.
+ * Who owns what. The caller owns all memory. The text is only read. Lent bytes (`trace`, `sets`)
+ *   are written from their start, and bytes past the trace or the list keep their content; what
+ *   they held before makes no difference to an answer. No pointer is kept after the call. The
+ *   calls need no alignment.
  *
- * What the host answers for. Each pointer leads to as many bytes as the length beside it says, and lent bytes overlap nothing else that is
- *   handed over. While a call runs nothing else writes the text, and nothing else reads or writes the lent bytes. Nothing can check these,
- *   and if they fail nothing is promised. With a length of 0 the pointer is not used and may be NULL. Everything else may be handed over:
- *   any bytes, any length, any set number. Every call ends, with an answer or refused.
+ * What the host answers for. Each pointer leads to as many bytes as the length beside it says,
+ *   and lent bytes overlap nothing else that is handed over. While a call runs nothing else
+ *   writes the text, and nothing else reads or writes the lent bytes. Nothing can check these,
+ *   and if they fail nothing is promised. With a length of 0 the pointer is not used and may be
+ *   NULL. Everything else may be handed over: any bytes, any length, any set number. Every call
+ *   ends, with an answer or refused.
  *
- * A refused call. Its answer has the number and the line of the first ground that fits (enum codremif_refusal), and every other part of it
- *   is 0: the verdict then reads broken, and the length, count or set reads 0. So look at codremif_number first. No lent byte has changed.
+ * A refused call. Its answer has the number and the line of the first ground that fits (enum
+ *   codremif_refusal), and every other part of it is 0: the verdict then reads broken, and the
+ *   length, count or set reads 0. So ask codremif_accepted first. No lent byte has changed.
  *
- * How much to lend. A call does not tell how many bytes it would have needed. Lend CODREMIF_TRACE_BYTES or CODREMIF_LIST_BYTES: these are
- *   enough for every model, and such a call is never refused by 11.
+ * How much to lend. A call does not tell how many bytes it would have needed. Lend
+ *   CODREMIF_TRACE_BYTES or CODREMIF_LIST_BYTES: these are enough for every model, and such a
+ *   call is never refused by 11.
  *
- * Threads. The library has no global state and nothing in it is written: any number of threads may call it at once, on the same text too,
- *   with lent bytes of their own.
+ * Threads and signals. The library has no global state and nothing in it is written: any number
+ *   of threads may call it at once, on the same text too, with lent bytes of their own. It
+ *   installs no signal handler and raises no signal. For the same reason a signal handler may
+ *   call it, also where the signal came in the middle of a call, if the handler's stack has the
+ *   room (below) and the lent bytes are its own.
  *
- * Heap and system. No malloc, no file, no system call, no lock, no errno. The archive needs memcpy and memset and nothing else.
+ * Heap and system. No malloc, no file, no system call, no lock, no errno. The archive needs
+ *   memcpy and memset and nothing else. Its code uses SSE2, which every x86-64 processor has, and
+ *   nothing later. It has no unwinding tables: a debugger or profiler that needs them does not
+ *   see past a frame of the library. Nothing is thrown, and no function of the host is called, so
+ *   no exception ever has to pass it.
  *
- * Stack. A call takes all its memory from the caller's stack: CODREMIF_STACK_BYTES at most, below the frame of the caller, what memcpy and
- *   memset take included. Look to it where a thread's stack is set by hand or is small by default (musl: 128 KiB). Where there is less, the
- *   call faults on the guard page below the stack: it touches each page on the way down and passes over none.
+ * Time. Judging a set and giving MUST take a millisecond or two at the most, on one core of a
+ *   machine of today; so do the lists of nearly every model. The time of a list grows with the
+ *   cores and cuts: where a model has thousands of both it takes some ten milliseconds (40 is the
+ *   most that was seen, on models/pages/eight_pages.txt). This is measured, not proved. That a
+ *   call ends is proved.
+ *
+ * Stack. A call takes all its memory from the caller's stack: CODREMIF_STACK_BYTES at most, below
+ *   the frame of the caller, what memcpy and memset take included. hosts/c measures it, and adds
+ *   up the frames of the archive's code for a bound; both fit. Look to it where a thread's stack
+ *   is set by hand or is small by default (musl: 128 KiB), and in signal handlers (sigaltstack).
+ *   Where there is less, the call faults on the guard page below the stack: it touches each page
+ *   on the way down and passes over none.
+ *
+ * Versions. CODREMIF_VERSION is this header's, codremif_version the library's; CHANGELOG.md says
+ *   what each brought. Link a library whose major number is the header's, and whose whole number
+ *   is not less. What a host can build on until the major number changes:
+ *
+ *   - a name of this header keeps its meaning, and a call its parameters;
+ *   - an answer is packed as below;
+ *   - a number of a refusal keeps its meaning and its place among the others.
+ *
+ *   A later version may have more calls and more numbers of refusals, accept texts that are
+ *   refused now, and raise the constants below. So a host treats a number that it does not know
+ *   as refused: codremif_accepted does.
  */
 #ifndef CODREMIF_H
 #define CODREMIF_H
+
+#if !defined(__cplusplus) && (!defined(__STDC_VERSION__) || __STDC_VERSION__ < 199901L)
+#error "codremif.h needs C99 or later (-std=c99)"
+#endif
 
 #include <stddef.h>
 #include <stdint.h>
@@ -75,33 +137,48 @@
 extern "C" {
 #endif
 
-/* An accepted text has at most so many bytes: two counts, `init`, `prop` and 16 rules at their longest. */
+/* The version that this header belongs to: major * 1,000,000 + minor * 1,000 + patch. */
+#define CODREMIF_VERSION 1000000
+#define CODREMIF_VERSION_STRING "1.0.0"
+
+/* An accepted text has at most so many bytes: two counts, `init`, `prop` and 16 rules at their
+ * longest. */
 #define CODREMIF_TEXT_BYTES 1420
+
+/* An accepted text has at most so many rules. */
+#define CODREMIF_RULES 16
+
+/* A rule's name has at most so many bytes. */
+#define CODREMIF_NAME_BYTES 8
 
 /* A trace has at most so many bytes: each of the 2^7 states once. */
 #define CODREMIF_TRACE_BYTES 128
 
-/* A list has at most so many sets: no core is a part of another, nor is a cut, and of 16 rules at most 16 over 8 sets are such (Sperner). */
+/* A list has at most so many sets: no core is a part of another, nor is a cut, and of 16 rules at
+ * most 16 over 8 sets are such (Sperner). */
 #define CODREMIF_LIST_SETS 12870
 
 /* A list has at most so many bytes. */
 #define CODREMIF_LIST_BYTES 25740
 
-/* The stack that a call needs: each, and the most of them. hosts/c/stack.c measures it, and fails where these say too little or far too much. */
+/* The stack that a call needs: each, and the most of them. hosts/c/stack.c measures it and
+ * hosts/c/frames adds it up; both fail where these say too little. */
 #define CODREMIF_JUDGE_STACK_BYTES 65536
-#define CODREMIF_CORES_STACK_BYTES 262144
-#define CODREMIF_CUTS_STACK_BYTES 262144
+#define CODREMIF_CORES_STACK_BYTES 131072
+#define CODREMIF_CUTS_STACK_BYTES 131072
 #define CODREMIF_MUST_STACK_BYTES 65536
-#define CODREMIF_STACK_BYTES 262144
+#define CODREMIF_STACK_BYTES 131072
 
 /*
- * Why a call is refused, in the words of document 01. Numbers 1 to 8 are tried line by line, in this order within a line; after the whole text
- * come 9, 10 and 11. The first line is 1; a number that concerns no line gives line 0. codremif_words has the same words.
+ * Why a call is refused; docs/FORMAT.md has an example of each. Numbers 1 to 8 are tried line by
+ * line, in this order within a line; after the whole text come 9, 10 and 11. The first line is 1;
+ * a number that concerns no line gives line 0. codremif_words has the same words.
  */
 enum codremif_refusal {
     /* Where no number fits, the call is accepted. */
     CODREMIF_ACCEPTED = 0,
-    /* The line due here is missing, doesn't start with its key and `=`, or has no byte 10 at its end. */
+    /* The line due here is missing, doesn't start with its key and `=`, or has no byte 10 at its
+     * end. */
     CODREMIF_LINE_DUE = 1,
     /* The count is not written as above or is outside its range. */
     CODREMIF_COUNT = 2,
@@ -125,34 +202,65 @@ enum codremif_refusal {
     CODREMIF_TOO_FEW_BYTES = 11
 };
 
+/* An answer that nobody looks at may be a refusal: compilers that can warn of it do. */
+#if defined(__GNUC__)
+#define CODREMIF_LOOK_AT_IT __attribute__((__warn_unused_result__))
+#else
+#define CODREMIF_LOOK_AT_IT
+#endif
+
 /*
- * The calls. Each answer is one 64-bit number: the number of the refusal (0: accepted), plus 256 times the line, plus 65,536 times the length,
- * count or set, plus 2^40 for a verdict that holds. Take it apart with the functions below.
+ * The calls. Each answer is one 64-bit number: the number of the refusal (0: accepted), plus 256
+ * times the line, plus 65,536 times the length, count or set, plus 2^40 for a verdict that holds.
+ * Take it apart with the functions below.
  */
 
 /*
- * Judges a set of rules. Accepted: codremif_holds, and if it does not hold codremif_length, with the trace in the first so many bytes of
- * `trace`. A set that holds writes nothing, has length 0 and needs no lent byte.
+ * Judges a set of rules. Accepted: codremif_holds, and if it does not hold codremif_length, with
+ * the trace in the first so many bytes of `trace`. A set that holds writes nothing, has length 0
+ * and needs no lent byte.
  * Refused by 1 to 9 (the text), 10 (the set), 11 (trace_len is less than the trace's length).
  */
-uint64_t codremif_judge(const uint8_t *text, size_t text_len, uint32_t set, uint8_t *trace, size_t trace_len);
+CODREMIF_LOOK_AT_IT
+uint64_t codremif_judge(const uint8_t *text, size_t text_len, uint32_t set, uint8_t *trace,
+                        size_t trace_len);
 
 /*
  * Lists the cores. Accepted: codremif_count, with so many sets from the start of `sets`.
  * Refused by 1 to 9 (the text), 11 (sets_len is less than twice the count).
  */
+CODREMIF_LOOK_AT_IT
 uint64_t codremif_cores(const uint8_t *text, size_t text_len, uint8_t *sets, size_t sets_len);
 
 /* Lists the cuts, as codremif_cores lists the cores. */
+CODREMIF_LOOK_AT_IT
 uint64_t codremif_cuts(const uint8_t *text, size_t text_len, uint8_t *sets, size_t sets_len);
 
 /*
  * Gives MUST. Accepted: codremif_set. Refused by 1 to 9 (the text).
  * It lends nothing, so it also serves to ask whether a text is accepted.
  */
+CODREMIF_LOOK_AT_IT
 uint64_t codremif_must(const uint8_t *text, size_t text_len);
 
-/* Of every answer: the number of the refusal, one of enum codremif_refusal; 0 for an accepted call. */
+/*
+ * Gives the library's version, as CODREMIF_VERSION gives the header's. It is no answer to be
+ * taken apart. Not less than CODREMIF_VERSION, and the same when divided by 1,000,000: the
+ * library has all that the header declares.
+ */
+CODREMIF_LOOK_AT_IT
+uint64_t codremif_version(void);
+
+/* What an answer says. */
+
+/* Of every answer: 1 if the call is accepted, 0 if it is refused, by whichever number. */
+static inline int codremif_accepted(uint64_t answer)
+{
+    return (answer & 0xFF) == CODREMIF_ACCEPTED;
+}
+
+/* Of every answer: the number of the refusal, one of enum codremif_refusal or, of a later
+ * library, one that this header does not know; 0 for an accepted call. */
 static inline unsigned codremif_number(uint64_t answer)
 {
     return answer & 0xFF;
@@ -194,24 +302,74 @@ static inline uint32_t codremif_set_at(const uint8_t *sets, size_t place)
     return sets[2 * place] + 256u * sets[2 * place + 1];
 }
 
-/* The words of document 01 for a number of a refusal; "" for a number that no call gives. */
+/* The words above for a number of a refusal; "" for one that this header does not know. */
 static inline const char *codremif_words(unsigned number)
 {
     switch (number) {
     case CODREMIF_ACCEPTED: return "Where no number fits, the call is accepted.";
-    case CODREMIF_LINE_DUE: return "The line due here is missing, doesn't start with its key and `=`, or has no byte 10 at its end.";
+    case CODREMIF_LINE_DUE: return "The line due here is missing, doesn't start with its key and "
+        "`=`, or has no byte 10 at its end.";
     case CODREMIF_COUNT: return "The count is not written as above or is outside its range.";
     case CODREMIF_NAME: return "A rule line's value doesn't begin with a proper name and `:`.";
     case CODREMIF_NAME_TWICE: return "An earlier rule has this name.";
     case CODREMIF_EXPRESSION_LENGTH: return "The expression has no byte or more than 64.";
-    case CODREMIF_BYTE: return "It has a byte other than `0`, `1`, `!`, `&`, `|`, `>`, `=`, a to g and A to G.";
-    case CODREMIF_LETTER: return "It has a letter beyond the first N, or a capital letter in `init` or `prop`.";
+    case CODREMIF_BYTE: return "It has a byte other than `0`, `1`, `!`, `&`, `|`, `>`, `=`, "
+        "a to g and A to G.";
+    case CODREMIF_LETTER: return "It has a letter beyond the first N, or a capital letter in "
+        "`init` or `prop`.";
     case CODREMIF_NOT_ONE: return "It isn't exactly one expression.";
     case CODREMIF_BYTES_FOLLOW: return "Bytes follow the last rule line (line R + 5).";
     case CODREMIF_NO_SUCH_SET: return "The judged set is 2^R or more (line 0).";
-    case CODREMIF_TOO_FEW_BYTES: return "The lent bytes are fewer than this answer's trace or list needs (line 0).";
+    case CODREMIF_TOO_FEW_BYTES: return "The lent bytes are fewer than this answer's trace or "
+        "list needs (line 0).";
     default: return "";
     }
+}
+
+/*
+ * What an accepted text says. These read the text themselves, within its length. They are for a
+ * text that a call has accepted; of another they say something or other, and do no harm.
+ */
+
+/* The name of the rule at a place of an accepted text, the first is 0: where it begins in the
+ * text, with its length in `name_len`. It is no C string. NULL and 0 where the text has no such
+ * rule. */
+static inline const char *codremif_rule_name(const uint8_t *text, size_t text_len, unsigned place,
+                                             size_t *name_len)
+{
+    size_t at = 0, end;
+    *name_len = 0;
+    while (at < text_len) {
+        /* a line begins here; a rule's begins with "rule=" */
+        if (text_len - at >= 5 && text[at] == 'r' && text[at + 1] == 'u' && text[at + 2] == 'l' &&
+            text[at + 3] == 'e' && text[at + 4] == '=' && place-- == 0) {
+            at += 5;
+            for (end = at; end < text_len && text[end] != ':'; end++)
+                continue;
+            *name_len = end - at;
+            return (const char *)(text + at);
+        }
+        while (at < text_len && text[at] != 10)
+            at++;
+        at++;
+    }
+    return NULL;
+}
+
+/* How many rules an accepted text has. */
+static inline unsigned codremif_rules(const uint8_t *text, size_t text_len)
+{
+    unsigned rules = 0;
+    size_t name_len;
+    while (rules < CODREMIF_RULES && codremif_rule_name(text, text_len, rules, &name_len) != NULL)
+        rules++;
+    return rules;
+}
+
+/* The full set of an accepted text: all its rules. */
+static inline uint32_t codremif_full_set(const uint8_t *text, size_t text_len)
+{
+    return ((uint32_t)1 << codremif_rules(text, text_len)) - 1;
 }
 
 #ifdef __cplusplus

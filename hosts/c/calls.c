@@ -1,12 +1,14 @@
 /*
- * Tests of the four calls as a C host makes them. What is expected is written by hand from document 01. Each text stands in a block of its
+ * Tests of the four calls as a C host makes them. What is expected is written by hand from docs/FORMAT.md. Each text stands in a block of its
  * own length, and each lent slice between guards, so that valgrind, and without it the guards, see a byte too many.
  */
-#define _POSIX_C_SOURCE 200809L
+#define _XOPEN_SOURCE 700
 #include <pthread.h>
+#include <signal.h>
 #include <stdio.h>
 #include <stdlib.h>
 #include <string.h>
+#include <sys/time.h>
 
 #include "codremif.h"
 #include "models.h"
@@ -104,6 +106,10 @@ static void test_unpacking(void)
           "the length, the count and the set are taken out of an answer");
     check(!codremif_holds(answer) && codremif_holds(answer + TWO_40) == 1, "a verdict that holds is 2^40");
     check(codremif_number(TWO_40) == 0 && codremif_line(TWO_40) == 0 && codremif_length(TWO_40) == 0, "2^40 is no part of the others");
+    int only_0 = 1;
+    for (unsigned number = 0; number <= 255; number++)
+        only_0 = only_0 && codremif_accepted(number) == (number == 0) && codremif_accepted(number + TWO_40 + 65536 * 3) == (number == 0);
+    check(only_0, "an answer is accepted if its number is 0, and refused by every other, known or not");
     check(codremif_line(255) == 0 && codremif_length(65535) == 0 && codremif_number(256) == 0, "the parts do not overlap");
     const uint8_t sets[] = {4, 0, 3, 0, 0xCD, 0xAB};
     check(codremif_set_at(sets, 0) == 4 && codremif_set_at(sets, 1) == 3 && codremif_set_at(sets, 2) == 0xABCD,
@@ -132,6 +138,8 @@ static void test_constants(void)
         ways = ways * (16 - i + 1) / i;
     check(CODREMIF_LIST_SETS == ways && CODREMIF_LIST_BYTES == 2 * ways, "the longest list is 16 over 8 sets");
     check(CODREMIF_TRACE_BYTES == 1 << 7, "the longest trace is each of 2^7 states");
+    check(CODREMIF_TEXT_BYTES == 7 + 9 + 2 * (5 + 64 + 1) + CODREMIF_RULES * (5 + CODREMIF_NAME_BYTES + 1 + 64 + 1),
+          "the longest text is all lines at their longest");
     struct model model;
     model_wide(&model, "!!!!!!!!!!!!!!!!!!!!!!!!!!!!!!!!!!!!!!!!!!!!!!!!!!!!!!!!!!!!!!!a",
                "!!!!!!!!!!!!!!!!!!!!!!!!!!!!!!!!!!!!!!!!!!!!!!!!!!!!!!!!!!!!!!!#");
@@ -390,6 +398,42 @@ static void test_threads(void)
     check(good, "threads at once on the same texts get the answers that one gets alone");
 }
 
+static volatile sig_atomic_t interrupted, interrupted_well = 1;
+
+/* Asks a model in the middle of whatever the program is at. The library keeps no state, so neither call can tell. */
+static void ask_in_handler(int signal)
+{
+    static struct answers answers;
+    size_t i = (size_t)interrupted % MODELS;
+    (void)signal;
+    ask_all(&shared_models[i], &answers);
+    if (memcmp(&answers, &alone[i], sizeof answers) != 0)
+        interrupted_well = 0;
+    interrupted++;
+}
+
+/* After test_threads, which has asked the shared models alone. */
+static void test_signals(void)
+{
+    struct answers *answers = block(sizeof *answers);
+    struct sigaction action;
+    struct itimerval every = {{0, 2000}, {0, 2000}}, never = {{0, 0}, {0, 0}};
+    int good = 1;
+    memset(&action, 0, sizeof action);
+    action.sa_handler = ask_in_handler;
+    action.sa_flags = SA_RESTART;
+    if (sigaction(SIGALRM, &action, NULL) != 0 || setitimer(ITIMER_REAL, &every, NULL) != 0)
+        abort();
+    for (size_t round = 0; round < 100000 && interrupted < 50; round++) {
+        ask_all(&shared_models[round % MODELS], answers);
+        good = good && memcmp(answers, &alone[round % MODELS], sizeof *answers) == 0;
+    }
+    /* the handler stays: a signal may still be under way */
+    setitimer(ITIMER_REAL, &never, NULL);
+    free(answers);
+    check(good && interrupted_well && interrupted >= 50, "a signal handler asks in the middle of a call, and both answers are right");
+}
+
 int main(void)
 {
     test_unpacking();
@@ -403,5 +447,6 @@ int main(void)
     test_pairs();
     test_bases();
     test_threads();
+    test_signals();
     return failures != 0;
 }

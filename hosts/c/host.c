@@ -2,7 +2,8 @@
  * A small C host: host MODEL-FILE [SET]
  *
  * Reads a model file, judges the set of rules (the full set if none is given) and prints the verdict, the trace if it is broken, MUST, the
- * cores and the cuts, each set as its number and its names. Exit status: 0 answered, 1 refused, 2 the host could not ask.
+ * cores and the cuts, each set as its number and its names. Exit status and messages are those of ./report: 0 answered; 1 refused, with one
+ * line on standard error; 2 wrong use, or something could not be read or written.
  */
 #include <errno.h>
 #include <stdio.h>
@@ -13,6 +14,10 @@
 
 /* As many bytes as the report reads; no legal model has more than CODREMIF_TEXT_BYTES. */
 #define READ_BYTES 2048
+
+#define USAGE "usage: host MODEL-FILE [SET]\n"
+
+enum status { ANSWERED = 0, REFUSED = 1, FAILED = 2 };
 
 struct text {
     uint8_t bytes[READ_BYTES];
@@ -32,32 +37,6 @@ static int read_text(const char *path, struct text *text)
     return good;
 }
 
-/* The place after the line that begins at a place. */
-static size_t next_line(const struct text *text, size_t place)
-{
-    while (text->bytes[place] != '\n')
-        place++;
-    return place + 1;
-}
-
-/* The place of the first rule line. The text is accepted, so four lines stand before it. */
-static size_t first_rule(const struct text *text)
-{
-    size_t place = 0;
-    for (int line = 1; line <= 4; line++)
-        place = next_line(text, place);
-    return place;
-}
-
-/* The full set. In an accepted text every line from the fifth on is a rule. */
-static uint32_t full_set(const struct text *text)
-{
-    uint32_t end = 1;
-    for (size_t place = first_rule(text); place < text->length; place = next_line(text, place))
-        end *= 2;
-    return end - 1;
-}
-
 /* A set as its number and its names in the model's order, with commas; the empty set is `-`. */
 static void print_set(const char *key, const struct text *text, uint32_t set)
 {
@@ -65,13 +44,13 @@ static void print_set(const char *key, const struct text *text, uint32_t set)
     if (set == 0)
         printf("-");
     const char *comma = "";
-    for (size_t place = first_rule(text); set != 0; place = next_line(text, place)) {
-        if (set % 2 == 1) {
-            const char *name = (const char *)text->bytes + place + strlen("rule=");
-            printf("%s%.*s", comma, (int)strcspn(name, ":"), name);
+    for (unsigned rule = 0; rule < codremif_rules(text->bytes, text->length); rule++) {
+        size_t length;
+        const char *name = codremif_rule_name(text->bytes, text->length, rule, &length);
+        if (set >> rule & 1) {
+            printf("%s%.*s", comma, (int)length, name);
             comma = ",";
         }
-        set /= 2;
     }
     printf("\n");
 }
@@ -79,10 +58,10 @@ static void print_set(const char *key, const struct text *text, uint32_t set)
 /* Whether the call was accepted; if not, says why not. */
 static int accepted(uint64_t answer)
 {
-    unsigned number = codremif_number(answer);
-    if (number == CODREMIF_ACCEPTED)
+    if (codremif_accepted(answer))
         return 1;
-    fprintf(stderr, "refused=%u line=%u: %s\n", number, codremif_line(answer), codremif_words(number));
+    unsigned number = codremif_number(answer);
+    fprintf(stderr, "host: refused by number %u, line %u: %s\n", number, codremif_line(answer), codremif_words(number));
     return 0;
 }
 
@@ -132,29 +111,42 @@ static int read_set(const char *word, uint32_t *set)
     return errno == 0 && *end == '\0' && value <= UINT32_MAX;
 }
 
+/* The status, unless something that was printed did not get out. */
+static enum status written(enum status status)
+{
+    if (fflush(stdout) == 0 && !ferror(stdout))
+        return status;
+    fprintf(stderr, "host: standard output cannot be written\n");
+    return FAILED;
+}
+
 int main(int argc, char **argv)
 {
     struct text text;
     uint32_t set = 0;
-    if (argc != 2 && argc != 3) {
-        fprintf(stderr, "usage: host MODEL-FILE [SET]\n");
-        return 2;
+    if (argc == 2 && strcmp(argv[1], "--help") == 0) {
+        printf(USAGE);
+        return written(ANSWERED);
     }
-    if (!read_text(argv[1], &text)) {
-        fprintf(stderr, "host: %s cannot be read\n", argv[1]);
-        return 2;
+    if (argc != 2 && argc != 3) {
+        fprintf(stderr, USAGE);
+        return FAILED;
     }
     if (argc == 3 && !read_set(argv[2], &set)) {
         fprintf(stderr, "host: %s is not a set's number\n", argv[2]);
-        return 2;
+        return FAILED;
     }
-    /* The full set is read off the lines, so the text has to be accepted first: MUST lends nothing and says so. */
+    if (!read_text(argv[1], &text)) {
+        fprintf(stderr, "host: %s cannot be read\n", argv[1]);
+        return FAILED;
+    }
+    /* The full set is read off the text, so it has to be accepted first: MUST lends nothing and says so. */
     if (!accepted(codremif_must(text.bytes, text.length)))
-        return 1;
+        return REFUSED;
     if (argc == 2)
-        set = full_set(&text);
+        set = codremif_full_set(text.bytes, text.length);
     if (!show_verdict(&text, set) || !show_must(&text) || !show_list("core", codremif_cores, &text) ||
         !show_list("cut", codremif_cuts, &text))
-        return 1;
-    return fflush(stdout) == 0 ? 0 : 2;
+        return written(REFUSED);
+    return written(ANSWERED);
 }

@@ -29,6 +29,11 @@ void model_begin(struct model *model, unsigned vars, unsigned rules, const char 
     add(model, "vars=%u\nrules=%u\ninit=%s\nprop=%s\n", vars, rules, init, prop);
 }
 
+void model_named_rule(struct model *model, const char *name, const char *expression)
+{
+    add(model, "rule=%s:%s\n", name, expression);
+}
+
 void model_rule(struct model *model, unsigned number, const char *expression)
 {
     add(model, "rule=rule%04u:%s\n", number, expression);

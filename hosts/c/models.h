@@ -18,6 +18,9 @@ void model_text(struct model *model, const char *text);
 /* Begins a model with its counts, `init` and `prop`. */
 void model_begin(struct model *model, unsigned vars, unsigned rules, const char *init, const char *prop);
 
+/* Adds a rule line. */
+void model_named_rule(struct model *model, const char *name, const char *expression);
+
 /* Adds a rule line; the name has eight bytes, the most there can be. */
 void model_rule(struct model *model, unsigned number, const char *expression);
 

@@ -19,9 +19,11 @@ use Rattle.semantics.specs.Laws.Filled.{has-room, same-judge, same-trace, fille
 use Rattle.cores.specs.declared.which.WhichList.{WhichList}
 use Rattle.cores.specs.declared.which.WhichList.the-variants.{Cores, Cuts}
 use Rattle.cores.specs.Marks.{marked, Room}
-use Rattle.cores.specs.Seeds.{Judges, AllFound}
+use Rattle.cores.specs.Laws.Marks.{tableBy-room, tableBy-marks}
+use Rattle.cores.specs.Seeds.{Judges}
 use Rattle.cores.specs.Which.{listed}
 use Rattle.analysis.specs.Lists.{tableOf}
+use Rattle.analysis.proofs.Arrays.{Found}
 
 module _ (text : List ℕ) {before : List ℕ} {m : Model} (r : RoomFor m before) {masks : List ℕ} {t : Tables}
     (p : masks ≡ masksOf before (described text m)) (q : t ≡ tablesOf (described text m)) where
@@ -48,22 +50,22 @@ module _ (text : List ℕ) {before : List ℕ} {m : Model} (r : RoomFor m before
       ∙ ap common (coresOf-agree (m .rules) (judgeBy masks t) (judge (described text m)) same-verdict)
 
   -- the tables that the cores and the cuts are marked in
-  module _ {cores cuts : List ℕ} (found : AllFound (t .rules) (judgeBy masks t) cores cuts) where
+  module _ {cores cuts : List ℕ} (found : Found (t .rules) (judgeBy masks t) cores cuts) where
     pub room-cores : Room (m .rules) cores
-    room-cores = let k = found .allCores in rw (← rules-are) (record { few = k .few; room = k .room })
+    room-cores = rw (found .allCores, ← rules-are) (tableBy-room (t .rules) (isCore (judgeBy masks t)) (judges .few))
 
     pub room-cuts : Room (m .rules) cuts
-    room-cuts = let k = found .allCuts in rw (← rules-are) (record { few = k .few; room = k .room })
+    room-cuts = rw (found .allCuts, ← rules-are) (tableBy-room (t .rules) (isCut (t .rules) (judgeBy masks t)) (judges .few))
 
     pub list-is : (which : WhichList) → listOf (m .rules) (marked (tableOf which cores cuts)) ≡ listed which (m .rules) (judge (described text m))
     unfolding tableOf listed coresOf cutsOf
     list-is Cores =
         ap (λ (R : ℕ). listOf R (marked cores)) (sym rules-are)
-        ∙ listOf-agree (t .rules) (marked cores) (isCore (judgeBy masks t)) (found .allCores .each)
+        ∙ listOf-agree (t .rules) (marked cores) (isCore (judgeBy masks t)) (rw (found .allCores) (tableBy-marks (t .rules) (isCore (judgeBy masks t))))
         ∙ ap (λ (R : ℕ). coresOf R (judgeBy masks t)) rules-are
         ∙ coresOf-agree (m .rules) (judgeBy masks t) (judge (described text m)) same-verdict
     list-is Cuts =
         ap (λ (R : ℕ). listOf R (marked cuts)) (sym rules-are)
-        ∙ listOf-agree (t .rules) (marked cuts) (isCut (t .rules) (judgeBy masks t)) (found .allCuts .each)
+        ∙ listOf-agree (t .rules) (marked cuts) (isCut (t .rules) (judgeBy masks t)) (rw (found .allCuts) (tableBy-marks (t .rules) (isCut (t .rules) (judgeBy masks t))))
         ∙ ap (λ (R : ℕ). cutsOf R (judgeBy masks t)) rules-are
         ∙ cutsOf-agree (m .rules) (judgeBy masks t) (judge (described text m)) same-verdict

@@ -53,7 +53,7 @@ fn list_with(text: &[u8], m: Model, which: WhichList, masks: &mut [u16], lent: &
     let t = semantics::tables::fill(text, m, masks);
     let words = cores::marks::word_count(m.rules);
     if m.rules <= 8 {
-        let mut unknown = [0xFFFF_FFFF_FFFF_FFFFu64; 4];
+        let mut unknown = [0u64; 4];
         let mut cores = [0u64; 4];
         let mut cuts = [0u64; 4];
         cores::seeds::find(
@@ -65,7 +65,7 @@ fn list_with(text: &[u8], m: Model, which: WhichList, masks: &mut [u16], lent: &
         );
         write_one(which, &cores[..words], &cuts[..words], m.rules, lent)
     } else {
-        let mut unknown = [0xFFFF_FFFF_FFFF_FFFFu64; 1024];
+        let mut unknown = [0u64; 1024];
         let mut cores = [0u64; 1024];
         let mut cuts = [0u64; 1024];
         cores::seeds::find(

@@ -1,14 +1,16 @@
 -- The demands of the mission, as theorems about what exactly the calls of this crate answer and write. Nothing is assumed.
--- To believe them, read these files below crates/ in this order (lines without imports and blank lines, 847 in all). What is proved of their
+-- To believe them, read these files below crates/ in this order (lines without imports and blank lines, 1,038 in all). What is proved of their
 -- definitions stands in `Laws` and need not be read, and neither need the functions that compute (the reading of a text, the verdict, the lists):
 -- the theorems say what they give.
 --   a number as a set of rules or of letters           sets/specs/Bit                8
 --   expressions, their value and their written form    exprs/specs/Expr             42
 --   a number in base ten                               lines/specs/Decimal          10
---   bytes, and those of a name                         lines/specs/Bytes            43
+--   bytes, and those of a name                         lines/specs/Bytes            47
 --   a legal rule and its line                          lines/specs/Written          40
 --   a model, when it is legal, its written form        models/specs/Written         53
 --   accepted texts are exactly these                   models/specs/Accepted        33
+--   when a text is refused: the numbers 1 to 9         models/specs/Refusals       106
+--   the reading answers with the first that fits       models/specs/Refused         29
 --   runs, reached, holds, the trace                    systems/specs/System         51
 --   the transition system of a model and a set         semantics/specs/Meaning      30
 --   parts, sharing a rule, the order of a list         sets/specs/Sets              27
@@ -17,10 +19,11 @@
 --   demand 3 for any judgement                         sets/specs/Demand3           49
 --   which list is meant                                cores/specs/Which             7
 --   what each call answers and writes                  codremif/specs/Answers      104
---   an answer as one 64-bit number                     codremif/specs/Packing       43
+--   an answer as one 64-bit number                     codremif/specs/Packing       46
+--   demand 1 for a text                                codremif/specs/Demand1       53
 --   demand 2 for a text                                codremif/specs/Demand2       16
 --   demand 3 for a text                                codremif/specs/Demand3       89
---   the starred examples                               codremif/specs/Examples     116
+--   the starred examples                               codremif/specs/Examples     112
 use Prim.Native.Nat.{ℕ, _^_, _<_}
 use mathlib.Core.Path.{_≡_, sym, ap}
 use mathlib.Core.List.{List, List·Memᴰ}
@@ -32,9 +35,11 @@ use Rattle.semantics.specs.Meaning.{systemOf}
 use Rattle.codremif.specs.declared.answers.ListAnswer.{ListAnswer}
 use Rattle.codremif.specs.declared.answers.MustAnswer.{MustAnswer}
 use Rattle.codremif.specs.Answers.{rulesIn, systemIn, textOutcome}
+use Rattle.codremif.specs.Demand1.{Demand1, HostDemand1}
 use Rattle.codremif.specs.Demand2.{Demand2}
 use Rattle.codremif.specs.Demand3.{inRattle, forHosts, Asked, TextDemand3, AsCalled, hostAsked}
 use Rattle.codremif.specs.Examples.{Case, table, Answered}
+use Rattle.codremif.specs.Laws.Demand1.{calls-meet-demand1, hosts-meet-demand1}
 use Rattle.codremif.specs.Laws.Demand2.{judging-meets-demand2}
 use Rattle.codremif.specs.Laws.Examples.{table-answered}
 use Rattle.codremif.specs.Laws.Demand3.{calls-meet-demand3, hosts-meet-demand3}
@@ -43,6 +48,14 @@ use Rattle.codremif.specs.Laws.Demand3.{calls-meet-demand3, hosts-meet-d
 pub meaning : (M : Described) → Legal M → (S : ℕ) → systemIn (writtenModel M) S ≡ systemOf M S
 unfolding systemIn modelIn
 meaning M l S = ap (λ D. systemOf D S) (sym (found-is-described (writtenModel M) M (readModel (writtenModel M)) (written-is-found M l)))
+
+-- Demand 1: for every text, every call, every set and all lent bytes.
+pub demand1 : (text : List ℕ) → Demand1 text
+demand1 = calls-meet-demand1
+
+-- The same of the exported calls, by their 64-bit answers and their lent bytes.
+pub demand1-hosts : (text : List ℕ) → HostDemand1 text
+demand1-hosts = hosts-meet-demand1
 
 -- Demand 2: for every accepted text, every set of its rules and all lent bytes.
 pub demand2 : (text : List ℕ) → textOutcome text ≡ Accepted → (S : ℕ) → S < 2 ^ rulesIn text → (lent : List ℕ) → Demand2 text S lent

@@ -1,12 +1,11 @@
 -- The starred examples of document 01, "Examples at the edges", as one table of model texts with what the calls give for each. The theorem is in
 -- `Demands`: it is computed from the texts as they are printed here. Assumes nothing: these are definitions.
 use Prim.Native.Nat.{ℕ, _*_, _≤_}
-use Prim.Native.String.{String}
 use mathlib.Core.Path.{_≡_}
-use mathlib.Core.List.{List, [], _∷_, _++_, List·Memᴰ}
+use mathlib.Core.List.{List, [], _∷_, List·Memᴰ}
 use lib.ListN.{length}
 use Rattle.sets.specs.Lists.{bytesOf}
-use Rattle.lines.specs.Bytes.{bytes}
+use Rattle.lines.specs.Bytes.{endedLines}
 use Rattle.cores.specs.declared.which.WhichList.{WhichList}
 use Rattle.cores.specs.declared.which.WhichList.the-variants.{Cores, Cuts}
 use Rattle.codremif.specs.declared.answers.JudgeAnswer.{JudgeAnswer}
@@ -36,20 +35,15 @@ broken S trace = record { set = S; trace = trace }
 unfoldable pub held : ℕ → Judging
 held S = record { set = S; trace = [] }
 
--- A text of these lines, each ended by byte 10.
-unfoldable pub lines : List String → List ℕ
-lines [] = []
-lines (l ∷ ls) = bytes l ++ (10 ∷ lines ls)
-
 -- ---- the table
 
 -- Where document 01 leaves a part of a case open, the comment says so.
 unfoldable pub table : List Case
-unfolding broken held lines
+unfolding broken held endedLines
 table =
     -- Tremor. (MUST is from its report.)
     record {
-      text = lines ("vars=3" ∷ "rules=3" ∷ "init=!c" ∷ "prop=>c&ab" ∷ "rule=ra:>CA" ∷ "rule=rb:>CB" ∷ "rule=vote:>C&AB" ∷ []);
+      text = endedLines ("vars=3" ∷ "rules=3" ∷ "init=!c" ∷ "prop=>c&ab" ∷ "rule=ra:>CA" ∷ "rule=rb:>CB" ∷ "rule=vote:>C&AB" ∷ []);
       judged = broken 0 (0 ∷ 4 ∷ []) ∷ broken 1 (0 ∷ 5 ∷ []) ∷ broken 2 (0 ∷ 6 ∷ []) ∷ held 3 ∷ held 4 ∷ [];
       cores = 4 ∷ 3 ∷ [];
       cuts = 5 ∷ 6 ∷ [];
@@ -57,7 +51,7 @@ table =
     }
     -- Tremor with `ra` as its only rule.
     ∷ record {
-      text = lines ("vars=3" ∷ "rules=1" ∷ "init=!c" ∷ "prop=>c&ab" ∷ "rule=ra:>CA" ∷ []);
+      text = endedLines ("vars=3" ∷ "rules=1" ∷ "init=!c" ∷ "prop=>c&ab" ∷ "rule=ra:>CA" ∷ []);
       judged = broken 1 (0 ∷ 5 ∷ []) ∷ [];
       cores = [];
       cuts = 0 ∷ [];
@@ -65,7 +59,7 @@ table =
     }
     -- Every state is a start state and meets `prop`. (The name `r` here and below, and MUST, are open.)
     ∷ record {
-      text = lines ("vars=1" ∷ "rules=1" ∷ "init=1" ∷ "prop=1" ∷ "rule=r:1" ∷ []);
+      text = endedLines ("vars=1" ∷ "rules=1" ∷ "init=1" ∷ "prop=1" ∷ "rule=r:1" ∷ []);
       judged = [];
       cores = 0 ∷ [];
       cuts = [];
@@ -73,7 +67,7 @@ table =
     }
     -- There is no start state. (MUST is open.)
     ∷ record {
-      text = lines ("vars=1" ∷ "rules=1" ∷ "init=0" ∷ "prop=0" ∷ "rule=r:1" ∷ []);
+      text = endedLines ("vars=1" ∷ "rules=1" ∷ "init=0" ∷ "prop=0" ∷ "rule=r:1" ∷ []);
       judged = [];
       cores = 0 ∷ [];
       cuts = [];
@@ -81,7 +75,7 @@ table =
     }
     -- A start state breaks `prop`. (The rule is open: `1`. So are the judged sets, both here, and the lists and MUST.)
     ∷ record {
-      text = lines ("vars=1" ∷ "rules=1" ∷ "init=1" ∷ "prop=a" ∷ "rule=r:1" ∷ []);
+      text = endedLines ("vars=1" ∷ "rules=1" ∷ "init=1" ∷ "prop=a" ∷ "rule=r:1" ∷ []);
       judged = broken 0 (0 ∷ []) ∷ broken 1 (0 ∷ []) ∷ [];
       cores = [];
       cuts = 0 ∷ [];
@@ -89,7 +83,7 @@ table =
     }
     -- One rule that suffices.
     ∷ record {
-      text = lines ("vars=1" ∷ "rules=1" ∷ "init=!a" ∷ "prop=!a" ∷ "rule=r:=Aa" ∷ []);
+      text = endedLines ("vars=1" ∷ "rules=1" ∷ "init=!a" ∷ "prop=!a" ∷ "rule=r:=Aa" ∷ []);
       judged = [];
       cores = 1 ∷ [];
       cuts = 1 ∷ [];
@@ -97,7 +91,7 @@ table =
     }
     -- The same rule twice under two names.
     ∷ record {
-      text = lines ("vars=1" ∷ "rules=2" ∷ "init=!a" ∷ "prop=!a" ∷ "rule=r:=Aa" ∷ "rule=s:=Aa" ∷ []);
+      text = endedLines ("vars=1" ∷ "rules=2" ∷ "init=!a" ∷ "prop=!a" ∷ "rule=r:=Aa" ∷ "rule=s:=Aa" ∷ []);
       judged = [];
       cores = 1 ∷ 2 ∷ [];
       cuts = 3 ∷ [];
@@ -105,7 +99,7 @@ table =
     }
     -- Instead the rule `0`, which no pair meets. (The cuts and MUST are open.)
     ∷ record {
-      text = lines ("vars=1" ∷ "rules=1" ∷ "init=!a" ∷ "prop=!a" ∷ "rule=r:0" ∷ []);
+      text = endedLines ("vars=1" ∷ "rules=1" ∷ "init=!a" ∷ "prop=!a" ∷ "rule=r:0" ∷ []);
       judged = [];
       cores = 1 ∷ [];
       cuts = 1 ∷ [];
@@ -113,7 +107,7 @@ table =
     }
     -- Two rules that suffice together only: one step can leave the property, but not from a reached state.
     ∷ record {
-      text = lines ("vars=2" ∷ "rules=2" ∷ "init=&!a!b" ∷ "prop=!b" ∷ "rule=r:=Aa" ∷ "rule=s:>Ba" ∷ []);
+      text = endedLines ("vars=2" ∷ "rules=2" ∷ "init=&!a!b" ∷ "prop=!b" ∷ "rule=r:=Aa" ∷ "rule=s:>Ba" ∷ []);
       judged = broken 2 (0 ∷ 1 ∷ 2 ∷ []) ∷ broken 1 (0 ∷ 2 ∷ []) ∷ [];
       cores = 3 ∷ [];
       cuts = 1 ∷ 2 ∷ [];

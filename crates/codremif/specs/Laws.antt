@@ -2,6 +2,7 @@
 pub mod Answers
 pub mod Packing
 pub mod Host
+pub mod Demand1
 pub mod Demand2
 pub mod Demand3
 pub mod Examples

@@ -3,6 +3,7 @@
 pub mod Answers
 pub mod Packing
 pub mod Lent
+pub mod Demand1
 pub mod Demand2
 pub mod Demand3
 pub mod Examples

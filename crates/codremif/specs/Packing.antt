@@ -45,6 +45,10 @@ mustParts (Set S) = accepted S false
 unfoldable pub packed : Parts → ℕ
 packed p = p .number + 256 * p .line + 65536 * p .amount + cond (p .holds) (2 ^ 40) 0
 
+-- A version as one number: major, minor, patch.
+abbrev pub versionNumber : ℕ → ℕ → ℕ → ℕ
+versionNumber major minor patch = 1000000 * major + 1000 * minor + patch
+
 -- ---- what the number gives back
 
 -- Each part fits its place in the packed number.

@@ -2,7 +2,7 @@
 ghost use mathlib.Core.Path.{_≡_};
 ghost use Rattle.cores.specs.declared.which.WhichList.the-variants.{Cores, Cuts};
 ghost use Rattle.codremif.specs.Answers.{judgeAnswer, judgeBytes, listAnswer, listBytes, mustAnswer};
-ghost use Rattle.codremif.specs.Packing.{judgeParts, listParts, mustParts, packed};
+ghost use Rattle.codremif.specs.Packing.{judgeParts, listParts, mustParts, packed, versionNumber};
 use cores::which::WhichList;
 
 #[no_mangle]
@@ -34,4 +34,12 @@ pub extern "C" fn codremif_must(text: &[u8]) -> u64
     ensures { λ r. ⌜ r ≡ packed (mustParts (mustAnswer (now (text .entry)))) ⌝ }
 {
     crate::packing::pack_must(crate::must::give_must(text))
+}
+
+// Which version of the part this is, as CODREMIF_VERSION of the header says it.
+#[no_mangle]
+pub extern "C" fn codremif_version() -> u64
+    ensures { λ r. ⌜ r ≡ versionNumber 1 0 0 ⌝ }
+{
+    1000000
 }

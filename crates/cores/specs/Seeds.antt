@@ -1,7 +1,7 @@
 -- How the sets of a monotone judgement are gone over: of which sets nothing is known yet, and which cores and cuts have been found. The first
 -- set by number of which nothing is known is the seed: if it holds it is a core, and otherwise it grows to a broken set with no rule to spare,
 -- which leaves a cut. These are definitions; what they say is proved in `Laws/Seeds`.
-use Prim.Native.Nat.{ℕ, _-_, _*_, _^_, _≤_, _<_}
+use Prim.Native.Nat.{ℕ, _+_, _-_, _*_, _/_, _^_, _≤_, _<_}
 use mathlib.Core.Path.{_≡_}
 use mathlib.Core.Bool.{Bool, true, false}
 use mathlib.Core.List.{List}
@@ -11,7 +11,7 @@ use Rattle.sets.specs.Sets.{_⊑_, with}
 use Rattle.sets.specs.Cores.{Core, Cut, Monotone, isCore, isCut}
 use Rattle.systems.specs.declared.tables.Tables.{Tables}
 use Rattle.systems.specs.ByTables.{HasRoom, judgeBy}
-use Rattle.cores.specs.Marks.{marked, Marks}
+use Rattle.cores.specs.Marks.{marked, NonePast, Marks}
 
 -- Masks and tables that judge the sets of at most 16 rules, so that a set holds if a part of it does.
 pub record Judges (masks : List ℕ) (t : Tables) : Type 0 where
@@ -62,6 +62,9 @@ pub record Going (R : ℕ) (h : ℕ → Bool) (unknown cores cuts : List ℕ) : 
   pub roomUnknown : 2 ^ R ≤ 64 * length unknown
   pub roomCores : 2 ^ R ≤ 64 * length cores
   pub roomCuts : 2 ^ R ≤ 64 * length cuts
+  pub pastUnknown : NonePast R unknown
+  pub pastCores : NonePast R cores
+  pub pastCuts : NonePast R cuts
   pub known : Known R h (marked unknown) (marked cores) (marked cuts)
 
 -- The seed S can be settled.
@@ -83,10 +86,18 @@ pub record Fresh (masks : List ℕ) (t : Tables) (unknown cores cuts : List ℕ)
   pub noCores : Marks (t .rules) (λ S. false) cores
   pub noCuts : Marks (t .rules) (λ S. false) cuts
 
--- All cores and all cuts are marked.
-pub record AllFound (R : ℕ) (h : ℕ → Bool) (cores cuts : List ℕ) : Type 0 where
+-- Something is known of every set, and all cores and all cuts are marked.
+pub record AllFound (R : ℕ) (h : ℕ → Bool) (unknown cores cuts : List ℕ) : Type 0 where
+  pub noneUnknown : Marks R (λ S. false) unknown
   pub allCores : Marks R (isCore h) cores
   pub allCuts : Marks R (isCut R h) cuts
+
+-- Masks and tables that judge, and as many words for each table of sets as its marks take; the words may be any.
+pub record Findable (masks : List ℕ) (t : Tables) (unknown cores cuts : List ℕ) : Type 0 where
+  pub judges : Judges masks t
+  pub inUnknown : length unknown ≡ (2 ^ t .rules + 63) / 64
+  pub inCores : length cores ≡ (2 ^ t .rules + 63) / 64
+  pub inCuts : length cuts ≡ (2 ^ t .rules + 63) / 64
 
 -- The set `all` is the full set, and it holds.
 pub record FullHolds (masks : List ℕ) (t : Tables) (all : ℕ) : Type 0 where

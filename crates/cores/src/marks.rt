@@ -2,8 +2,9 @@
 ghost use mathlib.Core.Path.{_≡_};
 ghost use mathlib.Core.Bool.{_&&_, _||_, not};
 ghost use Prim.Native.Nat.{_+_, _*_, _/_, _^_, _≤_, _<_};
-ghost use lib.Dec.{eqb};
-ghost use lib.ListN.{length};
+ghost use lib.Dec.{eqb, ltb};
+ghost use lib.ListN.{length, replicate};
+ghost use Rattle.sets.specs.Gathered.{setOf};
 ghost use Rattle.sets.specs.Sets.{part};
 ghost use Rattle.systems.specs.Next.{NextFrom};
 ghost use Rattle.cores.specs.Marks.{marked, Changed, FewWords};
@@ -15,6 +16,29 @@ pub fn word_count(rules: usize) -> usize
     ensures { λ r. ⌜ r ≡ (2 ^ rules + 63) / 64 ⌝ }
 {
     (sets::ruleset::set_count(rules) + 63) / 64
+}
+
+// The marks of all sets of so many rules, as each word of their table has them: a part of the one word where there are fewer than six rules.
+pub(crate) fn all_in_word(rules: usize) -> u64
+    requires { ⌜ rules ≤ 16 ⌝ }
+    ensures { λ r. ⌜ r ≡ setOf 64 (λ t. ltb t (2 ^ rules)) ⌝ }
+{
+    if rules < 6 {
+        (1u64 << sets::ruleset::set_count(rules)) - 1
+    } else {
+        0xFFFF_FFFF_FFFF_FFFF
+    }
+}
+
+// Every word of a table becomes the same.
+pub(crate) fn fill(table: &mut [u64], word: u64)
+    ensures { λ _. ⌜ now (table .exit) ≡ replicate (length (now (table .entry))) word ⌝ }
+{
+    let mut w = 0;
+    while w < table.len() {
+        table[w] = word;
+        w += 1;
+    }
 }
 
 // Whether a set is marked.

@@ -2,13 +2,14 @@
 // its parts have smaller numbers and are known to be broken. A broken one grows while it stays broken, and what it then lacks is a cut. So one
 // judgement settles as many sets as it can, and no set of which something is known is judged.
 ghost use mathlib.Core.Path.{_≡_};
-ghost use mathlib.Core.Bool.{not, _&&_};
+ghost use mathlib.Core.Bool.{false, not, _&&_};
 ghost use Rattle.sets.specs.Bit.{has};
 ghost use Rattle.sets.specs.Sets.{with};
+ghost use Rattle.sets.specs.Cores.{isCore, isCut};
 ghost use Rattle.sets.specs.Lists.{mustOf};
 ghost use Rattle.systems.specs.ByTables.{HasRoom, judgeBy};
-ghost use Rattle.cores.specs.Marks.{marked};
-ghost use Rattle.cores.specs.Seeds.{Judges, Addable, Growable, Grown, Settleable, Settled, Fresh, AllFound, FullHolds};
+ghost use Rattle.cores.specs.Marks.{marked, tableBy};
+ghost use Rattle.cores.specs.Seeds.{Judges, Addable, Growable, Grown, Settleable, Settled, Fresh, AllFound, Findable, FullHolds};
 use sets::ruleset::RuleSet;
 use systems::tables::Tables;
 
@@ -70,10 +71,10 @@ fn settle(
     }
 }
 
-// Marks the cores and the cuts. When it is called nothing is known of any set, and no core or cut is marked.
-pub fn find(masks: &[u16], t: Tables, unknown: &mut [u64], cores: &mut [u64], cuts: &mut [u64])
+// Settles every set. When it is called nothing is known of any set, and no core or cut is marked.
+fn settle_all(masks: &[u16], t: Tables, unknown: &mut [u64], cores: &mut [u64], cuts: &mut [u64])
     requires { ⌜ Fresh (now masks) t (now unknown) (now cores) (now cuts) ⌝ }
-    ensures { λ _. ⌜ AllFound (t .rules) (judgeBy (now (masks .entry)) t) (now (cores .exit)) (now (cuts .exit)) ⌝ }
+    ensures { λ _. ⌜ AllFound (t .rules) (judgeBy (now (masks .entry)) t) (now (unknown .exit)) (now (cores .exit)) (now (cuts .exit)) ⌝ }
 {
     let end = sets::ruleset::set_count(t.rules);
     let mut s = crate::marks::next_marked(unknown, 0, end);
@@ -81,6 +82,20 @@ pub fn find(masks: &[u16], t: Tables, unknown: &mut [u64], cores: &mut [u64], cu
         settle(masks, t, unknown, cores, cuts, RuleSet(s as u16));
         s = crate::marks::next_marked(unknown, s + 1, end);
     }
+}
+
+// Marks the cores and the cuts, whatever the tables held; `unknown` has no mark left.
+pub fn find(masks: &[u16], t: Tables, unknown: &mut [u64], cores: &mut [u64], cuts: &mut [u64])
+    requires { ⌜ Findable (now masks) t (now unknown) (now cores) (now cuts) ⌝ }
+    ensures { λ _. ⌜ now (unknown .exit) ≡ tableBy (t .rules) (λ S. false) ⌝ }
+    ensures { λ _. ⌜ now (cores .exit) ≡ tableBy (t .rules) (isCore (judgeBy (now (masks .entry)) t)) ⌝ }
+    ensures { λ _. ⌜ now (cuts .exit) ≡ tableBy (t .rules) (isCut (t .rules) (judgeBy (now (masks .entry)) t)) ⌝ }
+{
+    let all = crate::marks::all_in_word(t.rules);
+    crate::marks::fill(unknown, all);
+    crate::marks::fill(cores, 0);
+    crate::marks::fill(cuts, 0);
+    settle_all(masks, t, unknown, cores, cuts);
 }
 
 // The rules without which the full set, which holds, is broken: those that can be spared are dropped. One judgement for each rule.
@@ -110,6 +125,6 @@ pub fn must_of(masks: &[u16], t: Tables) -> RuleSet
     if systems::verdict::is_held(masks, t, all.0) {
         needed(masks, t, all)
     } else {
-        RuleSet::EMPTY
+        RuleSet::empty()
     }
 }

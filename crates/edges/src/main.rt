@@ -211,11 +211,12 @@ fn expression_forms() {
     );
 }
 
-// The verdict on a set, and eight lent bytes afterwards, of which the first `room` were lent; they held 7 before.
+// The verdict on a set, and eight lent bytes afterwards, of which the first `room` were lent; they held 201 to 208 before, so that a byte shown
+// from another place is seen.
 fn show_judged(name: &[u8], text: &[u8], set: u32, room: usize)
     requires { ⌜ room ≤ 8 ⌝ }
 {
-    let mut lent = [7u8; 8];
+    let mut lent = [201u8, 202, 203, 204, 205, 206, 207, 208];
     let answer = codremif::judging::judge(text, set, &mut lent[..room]);
     io::write_all(STDOUT_FILENO, name);
     match answer {
@@ -254,7 +255,7 @@ fn show_bytes(lent: [u8; 8]) {
     io::write_all(STDOUT_FILENO, b"\n");
 }
 
-// The count of a list, and eight lent bytes afterwards, of which the first `room` were lent; they held 7 before.
+// The count of a list, and eight lent bytes afterwards.
 fn show_count(name: &[u8], answer: ListAnswer, lent: [u8; 8]) {
     io::write_all(STDOUT_FILENO, name);
     match answer {
@@ -272,10 +273,11 @@ fn show_count(name: &[u8], answer: ListAnswer, lent: [u8; 8]) {
     show_bytes(lent);
 }
 
+// A list with `room` bytes lent of the eight, which held 201 to 208 before.
 fn show_list(name: &[u8], text: &[u8], which: WhichList, room: usize)
     requires { ⌜ room ≤ 8 ⌝ }
 {
-    let mut lent = [7u8; 8];
+    let mut lent = [201u8, 202, 203, 204, 205, 206, 207, 208];
     let answer = codremif::listing::list(text, which, &mut lent[..room]);
     show_count(name, answer, lent);
 }

@@ -4,7 +4,7 @@ use Prim.Native.Nat.{ℕ, suc}
 use Prim.Native.Char.{code}
 use Prim.Native.String.{String, [] as nothing, _∷_ as _then_}
 use mathlib.Core.Bool.{Bool, true, false, cond, not, _&&_, _||_}
-use mathlib.Core.List.{List, [], _∷_}
+use mathlib.Core.List.{List, [], _∷_, _++_}
 use lib.Dec.{eqb, leb, ltb}
 use Rattle.exprs.specs.declared.token.Token.{Token}
 use Rattle.exprs.specs.declared.token.Token.the-variants.{Constant, Now, Next, Not, And, Or, Implies, Alike, Other}
@@ -16,6 +16,11 @@ use Rattle.lines.specs.declared.classes.Class.the-variants.{InLine, InNa
 abbrev pub bytes : String → List ℕ
 bytes nothing = []
 bytes (c then s) = code c ∷ bytes s
+
+-- the text of these lines, each ended by byte 10
+unfoldable pub endedLines : List String → List ℕ
+endedLines [] = []
+endedLines (l ∷ ls) = bytes l ++ 10 ∷ endedLines ls
 
 abbrev pub isToken : Token → Bool
 isToken (Constant v) = true

@@ -2,3 +2,9 @@
 pub mod Ranges
 pub mod Rules
 pub mod Written
+pub mod Grounds
+pub mod Fitting
+pub mod Refusals
+pub mod Numbers
+pub mod Tables
+pub mod Overlaps

@@ -4,24 +4,23 @@ use mathlib.Core.List.{[], _∷_}
 use lib.Count.{ones}
 use Rattle.exprs.specs.Token.{tokenOf}
 use Rattle.exprs.specs.Expr.{size}
-use Rattle.lines.specs.Bytes.{belongs}
-use Rattle.codremif.specs.Examples.{lines}
+use Rattle.lines.specs.Bytes.{belongs, endedLines}
 use Rattle.sets.specs.Lists.{mustOf}
 use Rattle.semantics.specs.Meaning.{systemOf, judge}
 use Rattle.cores.specs.Which.{listed}
 use Rattle.reports.specs.Report.{verdictLines, setLine, listLines, modelReport, reportOf}
 
-pub tremor : reportOf (lines ("vars=3" ∷ "rules=3" ∷ "init=!c" ∷ "prop=>c&ab" ∷ "rule=ra:>CA" ∷ "rule=rb:>CB" ∷ "rule=vote:>C&AB" ∷ []))
-    ≡ lines ("verdict=holds" ∷ "must=-" ∷ "cores=2" ∷ "core=vote" ∷ "core=ra,rb" ∷ "cuts=2" ∷ "cut=ra,vote" ∷ "cut=rb,vote" ∷ [])
-unfolding reportOf modelReport verdictLines systemOf judge setLine mustOf listLines listed lines size belongs tokenOf ones
-tremor = refl
+pub tremor-report : reportOf (endedLines ("vars=3" ∷ "rules=3" ∷ "init=!c" ∷ "prop=>c&ab" ∷ "rule=ra:>CA" ∷ "rule=rb:>CB" ∷ "rule=vote:>C&AB" ∷ []))
+    ≡ endedLines ("verdict=holds" ∷ "must=-" ∷ "cores=2" ∷ "core=vote" ∷ "core=ra,rb" ∷ "cuts=2" ∷ "cut=ra,vote" ∷ "cut=rb,vote" ∷ [])
+unfolding reportOf modelReport verdictLines systemOf judge setLine mustOf listLines listed endedLines size belongs tokenOf ones
+tremor-report = refl
 
 -- Tremor with `ra` as its only rule, which is broken, and a text that is refused
-pub broken : reportOf (lines ("vars=3" ∷ "rules=1" ∷ "init=!c" ∷ "prop=>c&ab" ∷ "rule=ra:>CA" ∷ []))
-    ≡ lines ("verdict=broken" ∷ "state=0" ∷ "state=5" ∷ "must=-" ∷ "cores=0" ∷ "cuts=1" ∷ "cut=-" ∷ [])
-unfolding reportOf modelReport verdictLines systemOf judge setLine mustOf listLines listed lines size belongs tokenOf ones
-broken = refl
+pub broken-report : reportOf (endedLines ("vars=3" ∷ "rules=1" ∷ "init=!c" ∷ "prop=>c&ab" ∷ "rule=ra:>CA" ∷ []))
+    ≡ endedLines ("verdict=broken" ∷ "state=0" ∷ "state=5" ∷ "must=-" ∷ "cores=0" ∷ "cuts=1" ∷ "cut=-" ∷ [])
+unfolding reportOf modelReport verdictLines systemOf judge setLine mustOf listLines listed endedLines size belongs tokenOf ones
+broken-report = refl
 
-pub refused : reportOf (lines ("vars=3" ∷ "rules=17" ∷ [])) ≡ lines ("refused=2" ∷ "line=2" ∷ [])
-unfolding reportOf modelReport verdictLines systemOf judge setLine mustOf listLines listed lines size belongs tokenOf ones
-refused = refl
+pub refused-report : reportOf (endedLines ("vars=3" ∷ "rules=17" ∷ [])) ≡ endedLines ("refused=2" ∷ "line=2" ∷ [])
+unfolding reportOf modelReport verdictLines systemOf judge setLine mustOf listLines listed endedLines size belongs tokenOf ones
+refused-report = refl

@@ -3,7 +3,7 @@
 use Prim.Native.Nat.{ℕ}
 use mathlib.Core.Bool.{cond}
 use mathlib.Core.List.{List, [], _∷_, _++_, map, flatMap}
-use lib.ListN.{length}
+use lib.ListN.{length, take}
 use Rattle.sets.specs.Bit.{has, full}
 use Rattle.sets.specs.Lists.{select, mustOf}
 use Rattle.lines.specs.Bytes.{bytes}
@@ -91,3 +91,9 @@ reportOn (Refused number at) M = refusalReport number at
 unfoldable pub reportOf : List ℕ → List ℕ
 unfolding reportOn textOutcome modelIn
 reportOf text = reportOn (textOutcome text) (modelIn text)
+
+-- ---- the input
+
+-- the part of an input that is judged
+unfoldable pub judgedPart : List ℕ → List ℕ
+judgedPart input = take 2048 input

@@ -2,10 +2,12 @@
 ghost use mathlib.Core.Path.{_≡_};
 ghost use Rattle.reports.specs.Page.{pageOf, putByte, put};
 
-// Where the next byte goes: so many are still to be passed over, and then the next is stored at this place.
+// Where the next byte goes: so many are still to be passed over, and then the next is stored at this place. `more` notes that a byte was left
+// out because the page was full.
 pub(crate) struct Place {
     pub(crate) skip: usize,
     pub(crate) at: usize,
+    pub(crate) more: bool,
 }
 
 // Puts one byte, which is stored if it is not to be passed over and the page has room.
@@ -17,15 +19,21 @@ pub(crate) fn put_byte(b: u8, p: Place, page: &mut [u8]) -> Place
         return Place {
             skip: p.skip - 1,
             at,
+            more: p.more,
         };
     }
     if page.len() <= at {
-        return p;
+        return Place {
+            skip: p.skip,
+            at,
+            more: true,
+        };
     }
     page[at] = b;
     Place {
         skip: p.skip,
         at: at + 1,
+        more: p.more,
     }
 }
 

@@ -7,8 +7,8 @@ ghost use Rattle.lines.specs.Bytes.{bytes};
 ghost use Rattle.models.specs.Written.{modelIn};
 ghost use Rattle.codremif.specs.Answers.{IsRead, rulesIn, systemIn, listIn, mustIn};
 ghost use Rattle.codremif.specs.Packing.{listParts};
-ghost use Rattle.reports.specs.Page.{pageOf, put, window};
-ghost use Rattle.reports.specs.Report.{verdictLines, setLine, listLines, modelReport, refusalReport, reportOf};
+ghost use Rattle.reports.specs.Page.{pageOf, put, window, printedOf};
+ghost use Rattle.reports.specs.Report.{verdictLines, setLine, listLines, modelReport, refusalReport, reportOf, judgedPart};
 use crate::page::Place;
 use codremif::answers::JudgeAnswer;
 use codremif::answers::ListAnswer;
@@ -17,6 +17,16 @@ use cores::which::WhichList;
 use models::model::Model;
 use models::model::Outcome;
 use sets::ruleset::RuleSet;
+
+// So many bytes of the input are judged, and no more.
+pub const INPUT_BYTES: usize = 2048;
+
+// What is said of a page: it has so many bytes, the next one begins after so many of the report, and whether there is a next one.
+pub struct Printed {
+    pub bytes: usize,
+    pub next: usize,
+    pub more: bool,
+}
 
 fn refusal(number: u8, line: usize, p: Place, page: &mut [u8]) -> Place
     ensures { λ r. ⌜ pageOf r (now (page .exit)) ≡ put (refusalReport number line) (pageOf p (now (page .entry))) ⌝ }
@@ -87,20 +97,50 @@ fn model_report(text: &[u8], m: Model, p: Place, page: &mut [u8]) -> Place
     list_lines(text, m, WhichList::Cuts, t, page)
 }
 
-// Writes the part of the report that begins after `from` bytes, as much as the page takes, and says how many bytes that are.
-pub fn report(text: &[u8], from: usize, page: &mut [u8]) -> usize
-    ensures { λ r. ⌜ r ≡ length (window from (length (now (page .entry))) (reportOf (now (text .entry)))) ⌝ }
-    ensures { λ _. ⌜
-        now (page .exit) ≡ overwritten (window from (length (now (page .entry))) (reportOf (now (text .entry)))) (now (page .entry)) ⌝ }
+fn whole_report(text: &[u8], p: Place, page: &mut [u8]) -> Place
+    ensures { λ r. ⌜ pageOf r (now (page .exit)) ≡ put (reportOf (now (text .entry))) (pageOf p (now (page .entry))) ⌝ }
 {
-    let start = Place { skip: from, at: 0 };
     let reading = models::model::read_model(text);
     let outcome = reading.outcome;
     match outcome {
-        Outcome::Refused(number, line) => refusal(number, line, start, page).at,
+        Outcome::Refused(number, line) => refusal(number, line, p, page),
         Outcome::Accepted => {
             let m = reading.model;
-            model_report(text, m, start, page).at
+            model_report(text, m, p, page)
         }
+    }
+}
+
+// The part of an input that is judged.
+fn judged(input: &[u8]) -> &[u8]
+    ensures { λ r. ⌜ now r ≡ judgedPart (now (input .entry)) ⌝ }
+{
+    let end = INPUT_BYTES;
+    if end < input.len() {
+        &input[..end]
+    } else {
+        input
+    }
+}
+
+// Writes the part of an input's report that begins after `from` bytes, as much as the page takes, and says how many bytes that are, where the
+// next page begins and whether one follows.
+pub fn report(input: &[u8], from: usize, page: &mut [u8]) -> Printed
+    ensures { λ r. ⌜ r ≡ printedOf from (length (now (page .entry))) (reportOf (judgedPart (now (input .entry)))) ⌝ }
+    ensures { λ _. ⌜
+        now (page .exit) ≡ overwritten (window from (length (now (page .entry))) (reportOf (judgedPart (now (input .entry))))) (now (page .entry)) ⌝ }
+{
+    let start = Place {
+        skip: from,
+        at: 0,
+        more: false,
+    };
+    let end = whole_report(judged(input), start, page);
+    let bytes = end.at;
+    let next = from + bytes;
+    Printed {
+        bytes,
+        next,
+        more: end.more,
     }
 }

@@ -18,6 +18,13 @@ pub fn set_count(rules: usize) -> usize
 impl RuleSet {
     pub const EMPTY: RuleSet = RuleSet(0);
 
+    // The empty set.
+    pub fn empty() -> RuleSet
+        ensures { λ r. ⌜ r .0 ≡ 0 ⌝ }
+    {
+        RuleSet::EMPTY
+    }
+
     // The full set of so many rules.
     pub fn full(rules: usize) -> RuleSet
         requires { ⌜ rules ≤ 16 ⌝ }

@@ -1,5 +1,5 @@
 // The verdict alone, with no trace, by a search in any order. What is known of a state stands in one number: 1 for a reached state, 2 for one
-// whose row has been walked, 4 for a bad one. No row is walked twice, and no array is copied on the way.
+// whose row has been walked, 4 for a bad one. No row is walked twice, and the marks are lent from walk to walk.
 ghost use Prim.Native.Nat.{_≤_, _<_};
 ghost use mathlib.Core.Path.{_≡_};
 ghost use lib.ListN.{length, getD};
@@ -64,7 +64,7 @@ fn next_round(marks: &[u16; 128], s: usize, states: usize) -> usize
     next_open(marks, 0, states)
 }
 
-// The states are reached to which a row has a step of the set. No branch: eight states at a time.
+// The states are reached to which a row has a step of the set. No branch, so that the compiler can take several states at a time.
 fn mark_row(row: &[u16], set: u16, marks: &mut [u16; 128])
     requires { ⌜ (length (now row) ≤ 128) × (length (now marks) ≡ 128) ⌝ }
     ensures { λ _. ⌜ RowMarked (now (row .entry)) set (now (marks .entry)) (now (marks .exit)) ⌝ }

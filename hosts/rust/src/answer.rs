@@ -1,62 +1,70 @@
-//! What a call answers, in the words of document 01.
+//! What a call answers, in the words of docs/FORMAT.md.
 
 use std::fmt;
 
-/// Why a call is turned away. The discriminants are document 01's numbers.
+/// Why a call is turned away: the numbers of docs/FORMAT.md, by the names and in the words of include/codremif.h.
 #[derive(Clone, Copy, Debug, PartialEq, Eq, PartialOrd, Ord)]
-#[repr(u8)]
 pub enum Reason {
-    LineMissing = 1,
-    CountImproper = 2,
-    NameImproper = 3,
-    NameTaken = 4,
-    ExpressionLength = 5,
-    ForeignByte = 6,
-    LetterNotAllowed = 7,
-    NotOneExpression = 8,
-    BytesFollow = 9,
-    SetTooLarge = 10,
-    LentTooShort = 11,
+    LineDue,
+    Count,
+    Name,
+    NameTwice,
+    ExpressionLength,
+    Byte,
+    Letter,
+    NotOne,
+    BytesFollow,
+    NoSuchSet,
+    TooFewBytes,
+    /// A number that this wrapper does not know: a later library may have more of them. The call is refused all the same.
+    Other(u8),
 }
 
 impl Reason {
+    /// The reasons that have a name, in the order of their numbers, which begin with 1.
     pub const ALL: [Reason; 11] = [
-        Reason::LineMissing,
-        Reason::CountImproper,
-        Reason::NameImproper,
-        Reason::NameTaken,
+        Reason::LineDue,
+        Reason::Count,
+        Reason::Name,
+        Reason::NameTwice,
         Reason::ExpressionLength,
-        Reason::ForeignByte,
-        Reason::LetterNotAllowed,
-        Reason::NotOneExpression,
+        Reason::Byte,
+        Reason::Letter,
+        Reason::NotOne,
         Reason::BytesFollow,
-        Reason::SetTooLarge,
-        Reason::LentTooShort,
+        Reason::NoSuchSet,
+        Reason::TooFewBytes,
     ];
 
     pub fn number(self) -> u8 {
-        self as u8
-    }
-
-    pub fn from_number(number: u8) -> Option<Reason> {
-        Reason::ALL.into_iter().find(|reason| reason.number() == number)
-    }
-
-    fn words(self) -> &'static str {
         match self {
-            Reason::LineMissing => {
-                "the line due here is missing, doesn't start with its key and `=`, or has no byte 10 at its end"
+            Reason::Other(number) => number,
+            named => Reason::ALL.iter().take_while(|reason| **reason != named).count() as u8 + 1,
+        }
+    }
+
+    /// The reason of a number other than 0, which is no reason.
+    pub fn from_number(number: u8) -> Reason {
+        let named = Reason::ALL.into_iter().find(|reason| reason.number() == number);
+        named.unwrap_or(Reason::Other(number))
+    }
+
+    pub fn words(self) -> &'static str {
+        match self {
+            Reason::LineDue => {
+                "The line due here is missing, doesn't start with its key and `=`, or has no byte 10 at its end."
             }
-            Reason::CountImproper => "the count is not written as it should be or is outside its range",
-            Reason::NameImproper => "the rule line's value doesn't begin with a proper name and `:`",
-            Reason::NameTaken => "an earlier rule has this name",
-            Reason::ExpressionLength => "the expression has no byte or more than 64",
-            Reason::ForeignByte => "the expression has a byte that no expression has",
-            Reason::LetterNotAllowed => "a letter beyond the first N, or a capital letter in `init` or `prop`",
-            Reason::NotOneExpression => "it isn't exactly one expression",
-            Reason::BytesFollow => "bytes follow the last rule line",
-            Reason::SetTooLarge => "the judged set is 2^R or more",
-            Reason::LentTooShort => "the lent bytes are fewer than the trace or list needs",
+            Reason::Count => "The count is not written as above or is outside its range.",
+            Reason::Name => "A rule line's value doesn't begin with a proper name and `:`.",
+            Reason::NameTwice => "An earlier rule has this name.",
+            Reason::ExpressionLength => "The expression has no byte or more than 64.",
+            Reason::Byte => "It has a byte other than `0`, `1`, `!`, `&`, `|`, `>`, `=`, a to g and A to G.",
+            Reason::Letter => "It has a letter beyond the first N, or a capital letter in `init` or `prop`.",
+            Reason::NotOne => "It isn't exactly one expression.",
+            Reason::BytesFollow => "Bytes follow the last rule line (line R + 5).",
+            Reason::NoSuchSet => "The judged set is 2^R or more (line 0).",
+            Reason::TooFewBytes => "The lent bytes are fewer than this answer's trace or list needs (line 0).",
+            Reason::Other(_) => "",
         }
     }
 }
@@ -77,7 +85,7 @@ impl Refused {
 impl fmt::Display for Refused {
     fn fmt(&self, out: &mut fmt::Formatter) -> fmt::Result {
         let Refused { reason, line } = self;
-        write!(out, "refused {}, line {line}: {}", reason.number(), reason.words())
+        write!(out, "refused by number {}, line {line}: {}", reason.number(), reason.words())
     }
 }
 

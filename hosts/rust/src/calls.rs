@@ -1,4 +1,4 @@
-//! The four calls of libcodremif.a.
+//! The calls of libcodremif.a.
 
 use crate::answer::{Reason, Refused, Verdict};
 
@@ -15,6 +15,8 @@ mod declared {
         pub fn codremif_cores(text: *const u8, text_len: usize, sets: *mut u8, sets_len: usize) -> u64;
         pub fn codremif_cuts(text: *const u8, text_len: usize, sets: *mut u8, sets_len: usize) -> u64;
         pub fn codremif_must(text: *const u8, text_len: usize) -> u64;
+        #[cfg(has_version)]
+        pub fn codremif_version() -> u64;
     }
 }
 
@@ -55,28 +57,37 @@ pub fn must(text: &[u8]) -> Result<u16, Refused> {
     Ok(u16::try_from(set).expect("MUST is no set of 16 rules"))
 }
 
+/// Gives the library's version: major * 1,000,000 + minor * 1,000 + patch. The build script leaves it out where the
+/// library has no such call.
+#[cfg(has_version)]
+pub fn version() -> u64 {
+    // SAFETY: it is handed nothing.
+    unsafe { declared::codremif_version() }
+}
+
 /// The parts of an accepted call's answer.
+#[derive(Debug, PartialEq, Eq)]
 struct Accepted {
     amount: usize,
     holds: bool,
 }
 
 /// Takes apart: the number, plus 256 times the line, plus 65,536 times the length, count or set, plus 2^40 for a
-/// verdict that holds. It panics where a part is not 0 that document 01 says is 0, so that no test can miss it.
+/// verdict that holds. It panics where a part is not 0 that docs/FORMAT.md says is 0, so that no test can miss it; a number
+/// that it does not know is a refusal like the others.
 fn unpack(packed: u64) -> Result<Accepted, Refused> {
     let number = (packed % 256) as u8;
     let line = (packed / 256 % 256) as u8;
     let amount = (packed / 65_536 % (1 << 24)) as usize;
     let above = packed >> 40;
-    assert!(above <= 1, "no answer of document 01: {packed:#x}");
+    assert!(above <= 1, "no answer of docs/FORMAT.md: {packed:#x}");
     let holds = above == 1;
     if number == 0 {
         assert_eq!(line, 0, "accepted, and yet a line: {packed:#x}");
         return Ok(Accepted { amount, holds });
     }
     assert!(amount == 0 && !holds, "refused, and yet an answer: {packed:#x}");
-    let reason = Reason::from_number(number).expect("a number that document 01 lists");
-    Err(Refused::new(reason, line))
+    Err(Refused::new(Reason::from_number(number), line))
 }
 
 /// For the calls that give no verdict.
@@ -84,4 +95,20 @@ fn amount_alone(packed: u64) -> Result<usize, Refused> {
     let accepted = unpack(packed)?;
     assert!(!accepted.holds, "a verdict where none is due: {packed:#x}");
     Ok(accepted.amount)
+}
+
+#[cfg(test)]
+mod tests {
+    use super::*;
+
+    #[test]
+    fn every_number_but_0_is_a_refusal() {
+        for number in 1..=255_u8 {
+            let refused = unpack(u64::from(number) + 256 * 7).expect_err("a refusal");
+            assert_eq!((refused.reason.number(), refused.line), (number, 7));
+            assert_eq!(matches!(refused.reason, Reason::Other(_)), number > 11);
+            assert!(refused.to_string().starts_with(&format!("refused by number {number}, line 7: ")));
+        }
+        assert_eq!(unpack(5 * 65_536), Ok(Accepted { amount: 5, holds: false }));
+    }
 }

@@ -1,5 +1,6 @@
 //! Asks the library and the plain search the same question, and panics where they differ.
 
+use std::collections::BTreeMap;
 use std::fmt::Debug;
 
 use crate::answer::{Reason, Refused, Verdict};
@@ -11,22 +12,22 @@ use crate::plain::answers::Answers;
 #[derive(Clone, Debug, Default)]
 pub struct Tally {
     pub asked: usize,
-    by_number: [usize; 12],
+    by_number: BTreeMap<u8, usize>,
 }
 
 impl Tally {
     pub fn given(&self, reason: Reason) -> usize {
-        self.by_number[usize::from(reason.number())]
+        self.by_number.get(&reason.number()).copied().unwrap_or(0)
     }
 
     pub fn accepted(&self) -> usize {
-        self.by_number[0]
+        self.by_number.get(&0).copied().unwrap_or(0)
     }
 
     fn count<T>(&mut self, answer: &Result<T, Refused>) {
         self.asked += 1;
         let number = answer.as_ref().map_or_else(|refused| refused.reason.number(), |_| 0);
-        self.by_number[usize::from(number)] += 1;
+        *self.by_number.entry(number).or_default() += 1;
     }
 
     /// One call with lent bytes, asked of both sides over equally filled memory: the answers must be alike, and so must

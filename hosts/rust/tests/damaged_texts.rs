@@ -119,7 +119,7 @@ fn compare_text(seen: &mut Seen, text: &[u8], fills: &[Fill]) {
 /// A text still accepted after its damage. A set too large tells at once that the library accepts it too; where the
 /// model is small, everything else is compared as well.
 fn compare_accepted(seen: &mut Seen, text: &[u8], model: &Model, fills: &[Fill]) {
-    let too_large = Refused::new(Reason::SetTooLarge, 0);
+    let too_large = Refused::new(Reason::NoSuchSet, 0);
     for fill in fills {
         let mut lent = Lent::new(5, *fill);
         let answer = calls::judge(text, 1 << model.rules.len(), lent.bytes());

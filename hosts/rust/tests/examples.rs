@@ -1,4 +1,4 @@
-//! Every example of document 01's section "Examples at the edges", asked of the library and of the plain search.
+//! Every example at the edges that the request lists, asked of the library and of the plain search.
 
 #![deny(warnings)]
 
@@ -91,8 +91,8 @@ fn tremor_set_and_lent_bytes() {
     let plain = Answers::of(TREMOR.as_bytes()).expect("an accepted model");
     let text = TREMOR.as_bytes();
     let mut tally = Tally::default();
-    let too_large = Refused::new(Reason::SetTooLarge, 0);
-    let too_short = Refused::new(Reason::LentTooShort, 0);
+    let too_large = Refused::new(Reason::NoSuchSet, 0);
+    let too_short = Refused::new(Reason::TooFewBytes, 0);
     for fill in Fill::ALL {
         assert_eq!(tally.judge(text, &plain, 8, 128, fill), Err(too_large));
         assert_eq!(tally.judge(text, &plain, 8, 0, fill), Err(too_large));
@@ -137,14 +137,14 @@ fn two_steps_to_a_bad_state() {
 
 #[test]
 fn empty_text_and_counts() {
-    expect_refused("", Reason::LineMissing, 1);
-    expect_refused(&tremor_with(0, "vars=8"), Reason::CountImproper, 1);
+    expect_refused("", Reason::LineDue, 1);
+    expect_refused(&tremor_with(0, "vars=8"), Reason::Count, 1);
     for line in ["rules=0", "rules=01", "rules=17"] {
-        expect_refused(&tremor_with(1, line), Reason::CountImproper, 2);
+        expect_refused(&tremor_with(1, line), Reason::Count, 2);
     }
     let rules: String = (0..16).map(|rule| format!("rule=r{rule}:=Aa\n")).collect();
     expect_accepted(&format!("vars=1\nrules=16\ninit=!a\nprop=!a\n{rules}"));
-    expect_refused(&tremor_with(1, "rules=16"), Reason::LineMissing, 8);
+    expect_refused(&tremor_with(1, "rules=16"), Reason::LineDue, 8);
 }
 
 #[test]
@@ -153,10 +153,10 @@ fn expressions_and_names() {
     expect_accepted(&one_bit(&longest, &longest, &longest));
     expect_refused(&one_bit("1", "1", &format!("!{longest}")), Reason::ExpressionLength, 5);
     expect_refused(&one_bit(&format!("!{longest}"), "1", "1"), Reason::ExpressionLength, 3);
-    expect_refused(&one_bit("A", "1", "1"), Reason::LetterNotAllowed, 3);
-    expect_refused(&one_bit("&a", "1", "1"), Reason::NotOneExpression, 3);
-    expect_refused(&one_bit("aa", "1", "1"), Reason::NotOneExpression, 3);
-    expect_refused(&tremor_with(4, "rule=ninebytes:1"), Reason::NameImproper, 5);
+    expect_refused(&one_bit("A", "1", "1"), Reason::Letter, 3);
+    expect_refused(&one_bit("&a", "1", "1"), Reason::NotOne, 3);
+    expect_refused(&one_bit("aa", "1", "1"), Reason::NotOne, 3);
+    expect_refused(&tremor_with(4, "rule=ninebytes:1"), Reason::Name, 5);
     expect_accepted(&tremor_with(4, "rule=eightbyt:1"));
     expect_refused(&(TREMOR.to_string() + "\n"), Reason::BytesFollow, 8);
 }

@@ -104,8 +104,8 @@ fn compare_models(
         }
     }
     println!("{name}: R {rule_counts:?}, N 1 to 7: {seen:?}");
-    assert!(seen.tally.given(Reason::SetTooLarge) >= seen.models, "{seen:?}");
-    assert!(seen.tally.given(Reason::LentTooShort) >= seen.models, "{seen:?}");
+    assert!(seen.tally.given(Reason::NoSuchSet) >= seen.models, "{seen:?}");
+    assert!(seen.tally.given(Reason::TooFewBytes) >= seen.models, "{seen:?}");
     seen
 }
 
@@ -235,7 +235,7 @@ fn compare_too_large(seen: &mut Seen, text: &[u8], plain: &Answers) {
         let length = [0, 1, 128][(seen.models + turn) % 3];
         let fill = Fill::ALL[(seen.models / 3 + turn) % 3];
         let answer = seen.tally.judge(text, plain, set, length, fill);
-        assert_eq!(answer.map_err(|refused| refused.reason), Err(Reason::SetTooLarge), "{}", show(text));
+        assert_eq!(answer.map_err(|refused| refused.reason), Err(Reason::NoSuchSet), "{}", show(text));
     }
 }
 

@@ -17,7 +17,7 @@ use codremif_host::random::{models, Random};
 
 const TREMOR: &[u8] = b"vars=3\nrules=3\ninit=!c\nprop=>c&ab\nrule=ra:>CA\nrule=rb:>CB\nrule=vote:>C&AB\n";
 
-/// Tremor's whole report as document 01 prints it.
+/// Tremor's whole report as docs/FORMAT.md prints it.
 const TREMOR_REPORT: &[u8] = b"\
 verdict=holds\n\
 must=-\n\
@@ -29,7 +29,7 @@ cut=ra,vote\n\
 cut=rb,vote\n";
 
 #[test]
-fn tremor_as_document_01_prints_it() {
+fn tremor_as_the_format_prints_it() {
     assert_alike("plain report", &report(TREMOR), TREMOR_REPORT, TREMOR);
     assert_alike("report program", &Program::found().report(TREMOR), TREMOR_REPORT, TREMOR);
 }
@@ -107,6 +107,26 @@ fn long_reports() {
     assert!(seen.longest_report >= 16_000, "{seen:?}");
 }
 
+/// The program prints pages of 65,536 bytes. models/pages has models whose reports have several: one page too few, twice
+/// or in another order would differ. Two of the reports end where a page ends.
+#[test]
+fn reports_of_several_pages() {
+    let program = Program::found();
+    for (name, length) in
+        [("bases", 405_455), ("eight_pages", 515_739), ("one_full_page", 65_536), ("two_full_pages", 131_072)]
+    {
+        let text = sample(&format!("pages/{name}"), "txt");
+        let expected = report(&text);
+        assert_eq!(expected.len(), length, "{name}");
+        // The reports are long: only the number of the first line that differs is shown.
+        let printed = program.report(&text);
+        let first = printed.split(|byte| *byte == 10).zip(expected.split(|byte| *byte == 10));
+        let first = first.take_while(|(one, two)| one == two).count() + 1;
+        assert!(printed == expected, "{name}: {} bytes, differs in line {first}", printed.len());
+        println!("reports of several pages: {name}, {length} bytes");
+    }
+}
+
 #[test]
 fn randomly_damaged_texts() {
     let mut random = Random::new(seed_for("reports on damaged texts", 20_260_302));
@@ -132,22 +152,22 @@ fn randomly_damaged_texts() {
 fn lines_that_end_near_byte_2048() {
     let mut seen = Seen::new();
     let lines_before = [
-        (&b""[..], &b"vars="[..], Reason::CountImproper),
-        (b"vars=3\n", b"rules=", Reason::CountImproper),
+        (&b""[..], &b"vars="[..], Reason::Count),
+        (b"vars=3\n", b"rules=", Reason::Count),
         (b"vars=3\nrules=3\n", b"init=", Reason::ExpressionLength),
         (b"vars=3\nrules=3\ninit=!c\n", b"prop=", Reason::ExpressionLength),
-        (&TREMOR[..34], b"rule=", Reason::NameImproper),
+        (&TREMOR[..34], b"rule=", Reason::Name),
         (&TREMOR[..46], b"rule=rb:", Reason::ExpressionLength),
-        (&TREMOR[..58], b"rule=ra:", Reason::NameTaken),
+        (&TREMOR[..58], b"rule=ra:", Reason::NameTwice),
     ];
     for (before, key, reason) in lines_before {
         let line = before.split(|byte| *byte == 10).count() as u8;
         for (length, number) in [
             (2047, reason),
             (2048, reason),
-            (2049, Reason::LineMissing),
-            (2050, Reason::LineMissing),
-            (5000, Reason::LineMissing),
+            (2049, Reason::LineDue),
+            (2050, Reason::LineDue),
+            (5000, Reason::LineDue),
         ] {
             let mut text = [before, key].concat();
             text.resize(length - 1, b'1');
@@ -206,9 +226,9 @@ fn empty_input() {
 #[test]
 fn byte_0() {
     let mut seen = Seen::new();
-    seen.refused_with(b"\0", Refused::new(Reason::LineMissing, 1));
-    seen.refused_with(&[0; 5000], Refused::new(Reason::LineMissing, 1));
-    seen.refused_with(&[b"\0", TREMOR].concat(), Refused::new(Reason::LineMissing, 1));
+    seen.refused_with(b"\0", Refused::new(Reason::LineDue, 1));
+    seen.refused_with(&[0; 5000], Refused::new(Reason::LineDue, 1));
+    seen.refused_with(&[b"\0", TREMOR].concat(), Refused::new(Reason::LineDue, 1));
     seen.refused_with(&[TREMOR, b"\0"].concat(), Refused::new(Reason::BytesFollow, 8));
     for place in 0..TREMOR.len() {
         let mut text = TREMOR.to_vec();
@@ -285,7 +305,7 @@ impl Seen {
         self.note(&String::from_utf8(expected).expect("letters, digits and signs"));
     }
 
-    /// Both reports on an input that document 01 refuses in this way.
+    /// Both reports on an input that is refused in this way.
     fn refused_with(&mut self, input: &[u8], refused: Refused) {
         let expected = format!("refused={}\nline={}\n", refused.reason.number(), refused.line);
         assert_alike("plain report", &report(input), expected.as_bytes(), input);

@@ -1,9 +1,9 @@
 -- The calls give what the table of the starred examples says: traces, cores, cuts and MUST are computed from the texts, and that the calls give
 -- them, whatever bytes are lent, is from the laws of the answers. Assumes nothing.
 use Prim.Native.Nat.{ℕ, _^_, _≤_}
-use mathlib.Core.Path.{_≡_, refl, sym, ap, _∙_}
+use mathlib.Core.Path.{_≡_, refl, ap, _∙_}
 use mathlib.Core.Bool.{Bool, true, false, cond}
-use mathlib.Core.List.{List, [], _∷_, map, List·Memᴰ, List·Memᴰ·head, List·Memᴰ·tail}
+use mathlib.Core.List.{List, [], _∷_, map, List·Memᴰ}
 use native.Mathlib.Omega.{arith}
 use borrow.Author.Tests.{ltb-true}
 use lib.Dec.{ltb}
@@ -12,6 +12,7 @@ use Rattle.sets.specs.Lists.{overwritten}
 use Rattle.exprs.specs.Token.{tokenOf}
 use Rattle.exprs.specs.Expr.{size}
 use Rattle.lines.specs.Bytes.{belongs}
+use Rattle.models.specs.Laws.Tables.{map-agree}
 use Rattle.models.specs.declared.model.Outcome.{Outcome}
 use Rattle.models.specs.declared.model.Outcome.the-variants.{Accepted}
 use Rattle.systems.specs.System.{System}
@@ -59,14 +60,6 @@ expected c = record {
 computes : map computed table ≡ map expected table
 unfolding computed expected table belongs tokenOf size
 computes = refl
-
--- Functions that give the same list agree on its members.
-map-agree : {A B : Type 0} (f g : A → B) (l : List A) → map f l ≡ map g l → (x : A) → List·Memᴰ x l → f x ≡ g x
-map-agree f g (y ∷ l) e x (List·Memᴰ·head p) = ap f p ∙ head ∙ ap g (sym p)
-  where
-    head : f y ≡ g y
-    head = cc
-map-agree f g (y ∷ l) e x (List·Memᴰ·tail m) = map-agree f g l (cc) x m
 
 -- The verdict that goes with the trace of a system is its verdict.
 verdict-trace : (M : System) → verdictOf M ≡ verdictFor (traceOf M)

@@ -86,7 +86,7 @@ joined-length g most h zero = omega arith
 joined-length g most h (suc n) =
     omega (arith, joined-length g most h n, h n, length-append (joined g n) (g n), suc-mul n most)
 
-select-length : (q : ℕ → Bool) (n : ℕ) → length (select q n) ≤ n
+pub select-length : (q : ℕ → Bool) (n : ℕ) → length (select q n) ≤ n
 unfolding select
 select-length q n = omega (arith, joined-length (λ S. oneIf (q S) S) 1 (λ S. at-most (q S) S) n)
   where

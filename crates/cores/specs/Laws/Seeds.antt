@@ -1,13 +1,13 @@
 -- What going over the sets of a monotone judgement finds: what a seed adds is right, and once no set is left every core and every cut has been
 -- found. From monotonicity alone.
-use Prim.Native.Nat.{ℕ, _+_, _-_, _^_, _<_}
+use Prim.Native.Nat.{ℕ, _+_, _-_, _^_, _≤_, _<_}
 use mathlib.Core.Path.{_≡_, refl, sym, ap, _∙_}
 use mathlib.Core.Logic.{_↔_, _≢_, _⊎_, inl, inr, ⊎-elim}
 use mathlib.Core.Bool.{Bool, true, false, not, _&&_, _||_, true≢false, false≢true}
 use mathlib.Core.List.{List}
 use native.Mathlib.Omega.{arith}
 use native.Mathlib.Decide.{ℕ-discrete}
-use borrow.Author.Tests.{eqb-true, eq-eqb}
+use borrow.Author.Tests.{eqb-true, eq-eqb, ne-eqb}
 use lib.Dec.{eqb}
 use lib.Pow.{pow-pos}
 use Rattle.sets.specs.Laws.Choice.{alike}
@@ -19,6 +19,7 @@ use Rattle.sets.specs.Cores.{Core, Cut, Monotone, isCore, isCut}
 use Rattle.sets.specs.Laws.Cores.{isCore-iff, isCut-iff, false-if}
 use Rattle.sets.specs.Laws.Neighbours.{holds-above, broken-below}
 use Rattle.cores.specs.Marks.{marked, Marks, Changed}
+use Rattle.cores.specs.Laws.Marks.{past-stays}
 use Rattle.cores.specs.Seeds.{Known, Seed, Growable, Grown, Going, Settled, AllFound}
 
 -- ---- nothing is known at first
@@ -232,6 +233,10 @@ module _ (R : ℕ) (h unknown cores cuts : ℕ → Bool) (f : Known R h unknown 
 
 -- ---- the same of the tables
 
+-- A set of the rules that is added marks no number past them.
+one-past : (R T : ℕ) → T < 2 ^ R → (S : ℕ) → 2 ^ R ≤ S → (eqb S T || false) ≡ false
+one-past R T b S l = rw (ne-eqb S T (λ same. omega arith))
+
 module _ (R : ℕ) (h : ℕ → Bool) (unknown cores cuts : List ℕ) where
   pub all-unknown : Marks R (λ S. true) unknown → Marks R (λ S. false) cores → Marks R (λ S. false) cuts → Going R h unknown cores cuts
   all-unknown u c k =
@@ -240,14 +245,18 @@ module _ (R : ℕ) (h : ℕ → Bool) (unknown cores cuts : List ℕ) where
         roomUnknown = u .room;
         roomCores = c .room;
         roomCuts = k .room;
+        pastUnknown = u .past;
+        pastCores = c .past;
+        pastCuts = k .past;
         known = none-known R h (marked unknown) (marked cores) (marked cuts) (u .each) (c .each) (k .each);
       }
 
   module _ (g : Going R h unknown cores cuts) where
-    pub none-unknown : ((S : ℕ) → S < 2 ^ R → marked unknown S ≡ false) → AllFound R h cores cuts
+    pub none-unknown : ((S : ℕ) → S < 2 ^ R → marked unknown S ≡ false) → AllFound R h unknown cores cuts
     none-unknown none = record {
-      allCores = record { few = g .few; room = g .roomCores; each = all-cores R h (marked unknown) (marked cores) (marked cuts) (g .known) none };
-      allCuts = record { few = g .few; room = g .roomCuts; each = all-cuts R h (marked unknown) (marked cores) (marked cuts) (g .known) none };
+      noneUnknown = record { few = g .few; room = g .roomUnknown; each = none; past = g .pastUnknown };
+      allCores = record { few = g .few; room = g .roomCores; each = all-cores R h (marked unknown) (marked cores) (marked cuts) (g .known) none; past = g .pastCores };
+      allCuts = record { few = g .few; room = g .roomCuts; each = all-cuts R h (marked unknown) (marked cores) (marked cuts) (g .known) none; past = g .pastCuts };
     }
 
     module _ (mono : Monotone R h) (S : ℕ) (s : Seed R (marked unknown) S) where
@@ -270,6 +279,9 @@ module _ (R : ℕ) (h : ℕ → Bool) (unknown cores cuts : List ℕ) where
               roomUnknown = omega (arith, g .roomUnknown, u .size);
               roomCores = omega (arith, g .roomCores, c .size);
               roomCuts = g .roomCuts;
+              pastUnknown = past-stays u (g .pastUnknown) (λ T l. refl);
+              pastCores = past-stays c (g .pastCores) (one-past R S (s .below));
+              pastCuts = g .pastCuts;
               known = with-core R h mono (marked unknown) (marked cores) (marked cuts) (g .known) S s (marked unknown') (marked cores') at
                   (λ T l. c .at T (omega (arith, g .roomCores))) e;
             };
@@ -290,6 +302,9 @@ module _ (R : ℕ) (h : ℕ → Bool) (unknown cores cuts : List ℕ) where
               roomUnknown = omega (arith, g .roomUnknown, u .size);
               roomCores = g .roomCores;
               roomCuts = omega (arith, g .roomCuts, k .size);
+              pastUnknown = past-stays u (g .pastUnknown) (λ T l. refl);
+              pastCores = g .pastCores;
+              pastCuts = past-stays k (g .pastCuts) (one-past R N (omega (arith, e, pow-pos R)));
               known = with-cut R h mono (marked unknown) (marked cores) (marked cuts) (g .known) S s M m (marked unknown') (marked cuts') at
                   (λ T l. k .at T (omega (arith, g .roomCuts)) ∙ ap (λ (x : ℕ). eqb T x || marked cuts T) e);
             };

@@ -11,7 +11,7 @@ array-borrow-prefix-lent : tie.Need-array-borrow-prefix-lent
 array-borrow-prefix-lent c = search needs
 
 slice-aggregate-judge : tie.Need-slice-aggregate-judge
-slice-aggregate-judge c = sym (length-take-le (c .before .before .before .args .room) (7 ∷ 7 ∷ 7 ∷ 7 ∷ 7 ∷ 7 ∷ 7 ∷ 7 ∷ []) (c .before .before .before .pre))
+slice-aggregate-judge c = sym (length-take-le (c .before .before .before .args .room) (201 ∷ 202 ∷ 203 ∷ 204 ∷ 205 ∷ 206 ∷ 207 ∷ 208 ∷ []) (c .before .before .before .pre))
 
 judge-requires : tie.Need-judge-requires
 judge-requires c κs = search needs

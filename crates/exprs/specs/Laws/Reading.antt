@@ -32,7 +32,7 @@ size-pos (equivalence d e) = omega arith
 
 -- ---- each byte stands for one token, and each token but `Other` is spelt by one byte
 
-Spelt : Token → ℕ → Type 0
+unfoldable pub Spelt : Token → ℕ → Type 0
 Spelt (Constant false) b = b ≡ 48
 Spelt (Constant true) b = b ≡ 49
 Spelt (Now i) b = (i < 7) × (b ≡ 97 + i)
@@ -54,7 +54,7 @@ letter f b e = go (leb f b) refl e
         elim-false : false ≡ true → ⊥
         elim-false q = let z : _≡_ {A = ℕ} 0 1 = cc in omega arith
 
-spelt : (b : ℕ) → Spelt (tokenOf b) b
+pub spelt : (b : ℕ) → Spelt (tokenOf b) b
 unfolding Spelt tokenOf
 spelt b =
     by-test (λ t. Spelt t b) (eqb b 48) (λ e. eqb-true b 48 e) λ _.

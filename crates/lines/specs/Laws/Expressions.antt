@@ -99,11 +99,11 @@ module _ (n : ℕ) (capitals : Bool) where
 
 -- ---- an expression
 
-one-there : (e : Expr) → Letters 7 e → isOne (written e) ≡ true
+pub one-there : (e : Expr) → Letters 7 e → isOne (written e) ≡ true
 unfolding isOne isSize size
 one-there e l = rw (reads-what-is-written (written e) e .1 (l, ([], sym (append-nil (written e))))) (eq-eqb (size e) (length (written e)) refl)
 
-one-back : (s : List ℕ) → isOne s ≡ true → (e : Expr) × Letters 7 e × (s ≡ written e)
+pub one-back : (s : List ℕ) → isOne s ≡ true → (e : Expr) × Letters 7 e × (s ≡ written e)
 unfolding isOne isSize size
 one-back s q = go (readExpr s) refl q
   where

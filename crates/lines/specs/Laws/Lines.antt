@@ -67,10 +67,10 @@ no-rule-read parts bytes number q = let z : _≡_ {A = ℕ} 0 1 = cc in omega ar
 -- ---- a line
 
 -- s begins with the line of the key and the value
-record Begins (key value s : List ℕ) : Type 0 where
-  is : isLine key s ≡ true
-  value-is : valueOf key s ≡ value
-  bytes : lineLength s + 1 ≡ length (line key value)
+pub record Begins (key value s : List ℕ) : Type 0 where
+  pub is : isLine key s ≡ true
+  pub value-is : valueOf key s ≡ value
+  pub bytes : lineLength s + 1 ≡ length (line key value)
 
 pub line-append : (key value rest : List ℕ) → line key value ++ rest ≡ key ++ (value ++ 10 ∷ rest)
 unfolding line
@@ -81,7 +81,7 @@ unfolding line
 length-line key value = omega (arith, length-append key (value ++ 10 ∷ []), length-append value (10 ∷ []))
 
 module _ (key : List ℕ) (k : all InLine key ≡ true) where
-  line-there : (value rest : List ℕ) → all InLine value ≡ true → Begins key value (line key value ++ rest)
+  pub line-there : (value rest : List ℕ) → all InLine value ≡ true → Begins key value (line key value ++ rest)
   unfolding isLine valueOf belongs
   line-there value rest e =
       let t : List ℕ = value ++ 10 ∷ rest in
@@ -96,7 +96,7 @@ module _ (key : List ℕ) (k : all InLine key ≡ true) where
         bytes = omega (arith, length-line key value);
       }
 
-  line-back : (s : List ℕ) → isLine key s ≡ true → (rest : List ℕ) × (s ≡ line key (valueOf key s) ++ rest)
+  pub line-back : (s : List ℕ) → isLine key s ≡ true → (rest : List ℕ) × (s ≡ line key (valueOf key s) ++ rest) × (all InLine (valueOf key s) ≡ true)
   unfolding isLine valueOf belongs
   line-back s h =
       let both = and-eq-true-iff (same (take (length key) s) key) (ltb (lineLength s) (length s)) .0 h in
@@ -112,6 +112,7 @@ module _ (key : List ℕ) (k : all InLine key ≡ true) where
         q
             ∙ ap (λ r. key ++ r) (split-at t p 0 within ∙ ap₂ (λ x b. x ++ b ∷ drop (suc p) t) v ten)
             ∙ sym (line-append key (valueOf key s) (drop (suc p) t)),
+        ap (all InLine) (sym v) ∙ all-prefix InLine t,
       )
 
 -- ---- the counts
@@ -140,7 +141,7 @@ unfolding countIn
 count-none zero v f = refl
 count-none (suc m) v f = rw (same-false v (decimal (suc m)) (f (suc m) (omega arith) (omega arith))) (count-none m v (λ n a b. f n a (omega arith)))
 
-count-back : (most : ℕ) (v : List ℕ) (n : ℕ) → countIn most v ≡ suc n → (suc n ≤ most) × (v ≡ decimal (suc n))
+pub count-back : (most : ℕ) (v : List ℕ) (n : ℕ) → countIn most v ≡ suc n → (suc n ≤ most) × (v ≡ decimal (suc n))
 unfolding countIn
 count-back zero v n = λ q. absurd (omega arith)
 count-back (suc m) v n =
@@ -235,13 +236,13 @@ prop-reads = state-reads propKey refl
 -- ---- the rule lines
 
 -- the value begins with the name and `:`, and the expression follows
-record Named (name step v : List ℕ) : Type 0 where
-  is : isNamed v ≡ true
-  bytes : prefix InName v ≡ length name
-  name-is : take (prefix InName v) v ≡ name
-  step-is : drop (prefix InName v + 1) v ≡ step
+pub record Named (name step v : List ℕ) : Type 0 where
+  pub is : isNamed v ≡ true
+  pub bytes : prefix InName v ≡ length name
+  pub name-is : take (prefix InName v) v ≡ name
+  pub step-is : drop (prefix InName v + 1) v ≡ step
 
-named-there : (name step : List ℕ) → Within 1 8 (length name) → all InName name ≡ true → Named name step (name ++ 58 ∷ step)
+pub named-there : (name step : List ℕ) → Within 1 8 (length name) → all InName name ≡ true → Named name step (name ++ 58 ∷ step)
 unfolding isNamed belongs
 named-there name step w a =
     let v : List ℕ = name ++ 58 ∷ step in
@@ -254,9 +255,9 @@ named-there name step w a =
     }
 
 -- a value that begins with a proper name and `:`
-record Split (v : List ℕ) : Type 0 where
-  length-is : Within 1 8 (length (take (prefix InName v) v))
-  text : v ≡ take (prefix InName v) v ++ 58 ∷ drop (prefix InName v + 1) v
+pub record Split (v : List ℕ) : Type 0 where
+  pub length-is : Within 1 8 (length (take (prefix InName v) v))
+  pub text : v ≡ take (prefix InName v) v ++ 58 ∷ drop (prefix InName v + 1) v
 
 -- a byte that is not 0 stands within the list
 getD-within : (v : List ℕ) (k : ℕ) → 1 ≤ getD v k 0 → k < length v
@@ -264,7 +265,7 @@ getD-within [] k h = absurd (omega arith)
 getD-within (x ∷ v) zero h = omega arith
 getD-within (x ∷ v) (suc k) h = omega (arith, getD-within v k h)
 
-named-back : (v : List ℕ) → isNamed v ≡ true → Split v
+pub named-back : (v : List ℕ) → isNamed v ≡ true → Split v
 unfolding isNamed
 named-back v h =
     let k : ℕ = prefix InName v in
@@ -279,7 +280,7 @@ named-back v h =
       text = split-at v k 0 within ∙ ap₂ (λ x m. take k v ++ x ∷ drop m v) colon (sym (add-one k));
     }
 
-rule-is : (n : ℕ) (taken : List ℕ → Bool) (at : ℕ) (s : List ℕ) → ruleLine n taken at s
+pub rule-is : (n : ℕ) (taken : List ℕ → Bool) (at : ℕ) (s : List ℕ) → ruleLine n taken at s
     ≡ cond (isLine ruleKey s)
     (cond (isNamed (valueOf ruleKey s))
     (cond (taken (take (prefix InName (valueOf ruleKey s)) (valueOf ruleKey s)))
@@ -291,13 +292,13 @@ rule-is : (n : ℕ) (taken : List ℕ → Bool) (at : ℕ) (s : List ℕ) → ru
 unfolding ruleLine
 rule-is n taken at s = refl
 
-rule-in-line : (n : ℕ) (r : Rule) → n ≤ 7 → LegalRule n r → all InLine (r .name ++ 58 ∷ written (r .step)) ≡ true
+pub rule-in-line : (n : ℕ) (r : Rule) → n ≤ 7 → LegalRule n r → all InLine (r .name ++ 58 ∷ written (r .step)) ≡ true
 unfolding belongs
 rule-in-line n r h l =
     all-append InLine (r .name) (58 ∷ written (r .step))
     ∙ ap₂ _&&_ (all-in-line InName refl (r .name) (l .nameBytes)) (all-more InLine 58 (written (r .step)) refl (legal-in-line n true (r .step) h (l .step)))
 
-ruleKey-in-line : all InLine ruleKey ≡ true
+pub ruleKey-in-line : all InLine ruleKey ≡ true
 unfolding all prefix belongs
 ruleKey-in-line = refl
 

@@ -67,7 +67,7 @@ module _ (text names steps : List ℕ) (name : List ℕ) where
   not-taken zero f = refl
   not-taken (suc i) f = ap₂ _||_ (not-taken i (λ j h. f j (omega arith))) (same-false (nameOf text names steps i) name (f i (omega arith)))
 
-  taken-back : (i : ℕ) → isTaken text names steps i name ≡ false → (j : ℕ) → j < i → nameOf text names steps j ≢ name
+  pub taken-back : (i : ℕ) → isTaken text names steps i name ≡ false → (j : ℕ) → j < i → nameOf text names steps j ≢ name
   unfolding isTaken
   taken-back zero e j h = absurd (omega arith)
   taken-back (suc i) e j h =

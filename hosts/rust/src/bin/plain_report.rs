@@ -1,4 +1,4 @@
-//! The report program of document 01, by the plain search: reads standard input and writes the report.
+//! The report program, by the plain search: reads standard input and writes the report.
 
 #![deny(warnings)]
 

@@ -45,7 +45,7 @@ impl Answers {
 /// Judges one set of a system and writes its trace, one byte per state.
 pub fn judge(system: &TransitionSystem, set: u32, lent: &mut [u8]) -> Result<Verdict, Refused> {
     if set >= 1 << system.rules {
-        return Err(Refused::new(Reason::SetTooLarge, 0));
+        return Err(Refused::new(Reason::NoSuchSet, 0));
     }
     match trace(system, set as u16) {
         None => Ok(Verdict::Holds),
@@ -66,7 +66,7 @@ pub fn write_list(list: &[u16], lent: &mut [u8]) -> Result<usize, Refused> {
 /// Bytes past the last one keep their content; too few lent bytes all keep theirs.
 fn write_bytes(bytes: &[u8], lent: &mut [u8]) -> Result<(), Refused> {
     if lent.len() < bytes.len() {
-        return Err(Refused::new(Reason::LentTooShort, 0));
+        return Err(Refused::new(Reason::TooFewBytes, 0));
     }
     lent[..bytes.len()].copy_from_slice(bytes);
     Ok(())

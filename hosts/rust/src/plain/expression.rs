@@ -47,14 +47,14 @@ pub fn read(bytes: &[u8], bits: usize, place: Place) -> Result<Expression, Reaso
         return Err(Reason::ExpressionLength);
     }
     if !bytes.iter().all(|byte| b"01!&|>=abcdefgABCDEFG".contains(byte)) {
-        return Err(Reason::ForeignByte);
+        return Err(Reason::Byte);
     }
     if !bytes.iter().all(|byte| letter_allowed(*byte, bits, place)) {
-        return Err(Reason::LetterNotAllowed);
+        return Err(Reason::Letter);
     }
     match read_operand(bytes) {
         Some((expression, [])) => Ok(expression),
-        _ => Err(Reason::NotOneExpression),
+        _ => Err(Reason::NotOne),
     }
 }
 

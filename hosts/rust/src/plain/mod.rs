@@ -1,4 +1,4 @@
-//! The plain search: document 01 word by word, with no thought for speed beyond a table of pair masks.
+//! The plain search: the request's text word by word (docs/FORMAT.md says the same), with no thought for speed beyond a table of pair masks.
 //!
 //! * [`expression`]: what an expression is, how it is read, its value.
 //! * [`text`]: how a model text is read, and the numbers 1 to 9.

@@ -1,4 +1,4 @@
-//! The report, as document 01's section "The report" has it.
+//! The report, as docs/FORMAT.md, "The report", has it.
 
 use super::answers::Answers;
 use super::text::{self, Model};

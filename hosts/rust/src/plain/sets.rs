@@ -1,4 +1,4 @@
-//! Every rule set judged; cores, cuts and MUST as document 01 defines them.
+//! Every rule set judged; cores, cuts and MUST as docs/FORMAT.md defines them.
 
 use super::system::TransitionSystem;
 

@@ -50,7 +50,7 @@ impl<'text> Lines<'text> {
     /// Takes the next line and gives what stands after its key, or refuses it with number 1.
     fn value_due(&mut self, key: &[u8]) -> Result<&'text [u8], Refused> {
         self.number += 1;
-        let missing = Refused::new(Reason::LineMissing, self.number);
+        let missing = Refused::new(Reason::LineDue, self.number);
         let end = self.rest.iter().position(|byte| *byte == 10).ok_or(missing)?;
         let line = &self.rest[..end];
         self.rest = &self.rest[end + 1..];
@@ -64,17 +64,17 @@ impl<'text> Lines<'text> {
 
 /// A count is proper if it is written exactly as one of the numbers from 1 to `largest`.
 fn read_count(value: &[u8], largest: usize) -> Result<usize, Reason> {
-    (1..=largest).find(|count| count.to_string().as_bytes() == value).ok_or(Reason::CountImproper)
+    (1..=largest).find(|count| count.to_string().as_bytes() == value).ok_or(Reason::Count)
 }
 
 fn read_rule(value: &[u8], bits: usize, earlier: &[Rule]) -> Result<Rule, Reason> {
-    let colon = value.iter().position(|byte| *byte == b':').ok_or(Reason::NameImproper)?;
+    let colon = value.iter().position(|byte| *byte == b':').ok_or(Reason::Name)?;
     let name = &value[..colon];
     if !is_name(name) {
-        return Err(Reason::NameImproper);
+        return Err(Reason::Name);
     }
     if earlier.iter().any(|rule| rule.name == name) {
-        return Err(Reason::NameTaken);
+        return Err(Reason::NameTwice);
     }
     let expression = expression::read(&value[colon + 1..], bits, Place::Rule)?;
     Ok(Rule { name: name.to_vec(), expression })

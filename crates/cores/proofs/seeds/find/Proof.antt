@@ -1,110 +1,96 @@
--- `cores::seeds::find` meets its contract. The loop's invariant: what was found is right, no set below s is unknown, and s is unknown or the
--- end. Assumes nothing.
-use Prim.Native.Nat.{ℕ, _+_, _-_, _^_, _≤_, _<_}
-use mathlib.Core.Path.{_≡_, refl, _∙_}
-use mathlib.Core.Bool.{Bool, true, false}
+-- `cores::seeds::find` meets its contract: filled so, the tables say that nothing is known, and tables that mark the sets that pass a test are
+-- the tables by that test. Assumes nothing.
+use Prim.Native.Nat.{ℕ, _+_, _/_, _^_, _≤_}
+use mathlib.Core.Path.{_≡_, sym, ap, _∙_}
+use mathlib.Core.Bool.{true, false, and-true, and-false}
 use mathlib.Core.List.{List}
 use native.Mathlib.Omega.{arith}
-use borrow.Author.Count.{below-more}
-use native.Mathlib.Decide.{decLt}
-use lib.ListN.{length}
-use lib.Pow.{pow-mono}
-use Rattle.systems.specs.Next.{NextFrom}
-use Rattle.systems.specs.ByTables.{judgeBy}
-use Rattle.cores.specs.Marks.{marked}
-use Rattle.cores.specs.Seeds.{Going, Seed, Settled, AllFound}
-use Rattle.cores.specs.Laws.Seeds.{all-unknown, none-unknown}
+use lib.Dec.{ltb}
+use lib.ListN.{length, replicate}
+use Rattle.sets.specs.Bit.{has}
+use Rattle.sets.specs.Laws.Bit.{has-zero}
+use Rattle.sets.specs.Laws.Cores.{false-if}
+use Rattle.sets.specs.Gathered.{setOf}
+use Rattle.sets.specs.Laws.Gathered.{has-setOf}
+use Rattle.cores.specs.Marks.{Marks}
+use Rattle.cores.specs.Laws.Marks.{repeated, is-tableBy}
 use Rattle.cores.proofs.seeds.find.Statement.{statement}
 use Rattle.cores.proofs.seeds.find.Tie as tie
 
-record Finding (R : ℕ) (h : ℕ → Bool) (end : ℕ) (unknown cores cuts : List ℕ) (s : ℕ) : Type 0 where
-  count : end ≡ 2 ^ R
-  going : Going R h unknown cores cuts
-  within : s ≤ end
-  itself : s < end → marked unknown s ≡ true
-  first : (T : ℕ) → T < s → marked unknown T ≡ false
+-- a table of the words that the marks of the sets of R rules take, once it is filled
+module _ {R : ℕ} (few : R ≤ 16) (before : List ℕ) {after : List ℕ} (size : length before ≡ (2 ^ R + 63) / 64) where
+  all-marked : {word : ℕ} → word ≡ setOf 64 (λ t. ltb t (2 ^ R)) → after ≡ replicate (length before) word → Marks R (λ S. true) after
+  all-marked {word} said e =
+      rw e
+      (repeated R word true (length before) few size
+      (λ t l. ap (λ (x : ℕ). has x t) said ∙ has-setOf 64 (λ t. ltb t (2 ^ R)) t l ∙ sym (and-true (ltb t (2 ^ R)))))
 
--- as many words as before
-record Kept (unknown₀ cores₀ cuts₀ unknown cores cuts : List ℕ) : Type 0 where
-  inUnknown : length unknown ≡ length unknown₀
-  inCores : length cores ≡ length cores₀
-  inCuts : length cuts ≡ length cuts₀
+  none-marked : after ≡ replicate (length before) 0 → Marks R (λ S. false) after
+  none-marked e = rw e (repeated R 0 false (length before) few size (λ t l. false-if (has 0 t) (has-zero t) ∙ sym (and-false (ltb t (2 ^ R)))))
 
-begun : (R : ℕ) (h : ℕ → Bool) (end : ℕ) (unknown cores cuts : List ℕ) (s : ℕ) → end ≡ 2 ^ R → Going R h unknown cores cuts → NextFrom (marked unknown) 0 end s
-    → Finding R h end unknown cores cuts s
-begun R h end unknown cores cuts s e g f =
-    record { count = e; going = g; within = f .within; itself = f .passes; first = λ T l. f .passed T (omega arith) l }
+-- the places where the tables are filled, seen from the call that settles all, from one another, and the function's start
+abbrev cuts-filled : tie.After-settle-all-arg3 → tie.After-fill3
+cuts-filled p = p .before .before .before .before .before
 
-module _ (R : ℕ) (h : ℕ → Bool) (end : ℕ) (unknown cores cuts : List ℕ) (s : ℕ) (f : Finding R h end unknown cores cuts s) where
-  small : end ≤ 65536
-  small = omega (arith, f .count, pow-mono (f .going .few))
+abbrev cores-filled : tie.After-fill3 → tie.After-fill2
+cores-filled p = p .before .before .before .before
 
-  seed : s < end → Seed R (marked unknown) s
-  seed l = record { below = omega (arith, f .count); itself = f .itself l; first = f .first }
+abbrev unknown-filled : tie.After-fill2 → tie.After-fill
+unknown-filled p = p .before .before .before .before
 
-  next : s < end → (unknown' cores' cuts' : List ℕ) (t : ℕ) → Settled R h s unknown unknown' cores' cuts' → NextFrom (marked unknown') (s + 1) end t
-      → Finding R h end unknown' cores' cuts' t
-  next l unknown' cores' cuts' t d n =
-      record { count = f .count; going = d .going; within = n .within; itself = n .passes; first = λ T b. at T b (decLt T (s + 1)) }
-    where
-      known : (T : ℕ) → T < s + 1 → marked unknown' T ≡ false
-      known = below-more (λ (T : ℕ). marked unknown' T ≡ false) s (λ T b. d .stays T (omega (arith, f .count)) (f .first T b)) (d .itself)
+abbrev counted : tie.After-fill → tie.After-all-in-word
+counted p = p .before .before
 
-      at : (T : ℕ) → T < t → Dec (T < s + 1) → marked unknown' T ≡ false
-      at T b (yes x) = known T x
-      at T b (no x) = n .passed T (omega arith) b
+abbrev start : tie.After-all-in-word → tie.Start
+start p = p .before .before .before .before .before
 
-  all : end ≤ s → AllFound R h cores cuts
-  all l = none-unknown R h unknown cores cuts (f .going) (λ S b. f .first S (omega (arith, f .count)))
+-- the call that settles all and the function's start, seen from the end
+abbrev called : tie.After-slice-known9 → tie.After-settle-all-arg3
+called p = p .before .before .before .before .before .before .before
 
-abbrev Inv-loop : tie.InvT-loop
-Inv-loop masks t unknown₀ cores₀ cuts₀ end s₀ unknown cores cuts s =
-    Kept unknown₀ cores₀ cuts₀ unknown cores cuts × Finding (t .rules) (judgeBy masks t) end unknown cores cuts s
+abbrev begun : tie.After-slice-known9 → tie.Start
+begun p = start (counted (unknown-filled (cores-filled (cuts-filled (called p)))))
 
-abbrev μ-loop : tie.MeasureT-loop
-μ-loop masks t unknown₀ cores₀ cuts₀ end s₀ unknown cores cuts s = end - s
+-- as many words as at the start
+unknown-kept : (c : tie.After-slice-known9) → length (c .before .before .before .before .before .before .settle-all .last .1 .1 .0) ≡ length (begun c .args .unknown .now)
+unknown-kept c =
+    c .before .before .before .before .before .unknown2 .given ∙ cores-filled (cuts-filled (called c)) .before .before .before .unknown .given
 
--- the function's start, seen from where the sets were counted and from the loop
-abbrev counted : tie.After-set-count Inv-loop μ-loop → tie.Start Inv-loop μ-loop
-counted p = p .before .before .before .before .before
+cores-kept : (c : tie.After-slice-known9) → length (c .before .before .before .before .before .before .settle-all .last .1 .1 .1 .0) ≡ length (begun c .args .cores .now)
+cores-kept c = c .before .before .before .cores2 .given ∙ cuts-filled (called c) .before .before .before .cores .given
 
-abbrev start : tie.At-loop Inv-loop μ-loop → tie.Start Inv-loop μ-loop
-start p = counted (p .before .before .before)
-
--- a turn of the loop, seen from its call of `settle` and from after it
-abbrev turn : tie.After-settle Inv-loop μ-loop → tie.In-loop Inv-loop μ-loop
-turn p = p .before .before .before .before
-
-abbrev settled : tie.After-next-marked-arg2 Inv-loop μ-loop → tie.After-settle Inv-loop μ-loop
-settled p = p .before .before .before .before .before .before .before
+cuts-kept : (c : tie.After-slice-known9) → length (c .before .before .before .before .before .before .settle-all .last .1 .1 .1 .1 .0) ≡ length (begun c .args .cuts .now)
+cuts-kept c = c .before .cuts2 .given ∙ called c .before .before .before .before .cuts .given
 
 pub find-spec : {M : Type 1} → statement M
 find-spec =
     tie.close
     (tie.spec
-    Inv-loop
-    μ-loop
     (λ c κs. c .before .before .before .before .pre .judges .few)
-    (λ c κs. let u = counted (c .before) .pre .allUnknown in (omega (arith, c .before .set-count .ensures, pow-mono (u .few)), omega (arith, c .before .set-count .ensures, u .room)))
-    (λ c.
-    let n = c .before .before in
-    let p = counted n .pre in
-    (record { inUnknown = refl; inCores = refl; inCuts = refl }, begun _ _ _ _ _ _ _ (n .set-count .ensures) (all-unknown _ _ _ _ _ (p .allUnknown) (p .noCores) (p .noCuts)) (c .next-marked .ensures)))
-    (λ c. let l = c .before .before .before in omega (arith, l .loop-test .taken, small _ _ _ _ _ _ _ (l .before .loop .inv .1)))
+    (λ c κs. tt)
+    (λ c κs. tt)
+    (λ c κs. tt)
     (λ c κs.
-    let l = c .before .before .before in
-    let f = l .before .loop .inv .1 in
-    record { judges = start (l .before) .pre .judges; going = f .going; seed = seed _ _ _ _ _ _ _ f (l .loop-test .taken) })
-    (λ c. let l = turn (settled c) in omega (arith, l .loop-test .taken, small _ _ _ _ _ _ _ (l .before .loop .inv .1)))
-    (λ c κs. let f = turn (settled c) .before .loop .inv .1 in (small _ _ _ _ _ _ _ f, omega (arith, f .count, settled c .settle .ensures .going .roomUnknown)))
-    (λ c. let l = turn (settled (c .before)) in omega (arith, l .loop-test .taken, c .next-marked2 .ensures .after (omega (arith, l .loop-test .taken))))
+    let f = cuts-filled c in
+    let g = cores-filled f in
+    let h = unknown-filled g in
+    let p = start (counted h) .pre in
+    let a = start (counted h) .args in
+    record {
+      judges = p .judges;
+      allUnknown = all-marked (p .judges .few) (a .unknown .now) (p .inUnknown) (counted h .all-in-word .ensures) (h .fill .ensures);
+      noCores = none-marked (p .judges .few) (a .cores .now) (p .inCores) (g .fill2 .ensures);
+      noCuts = none-marked (p .judges .few) (a .cuts .now) (p .inCuts) (f .fill3 .ensures);
+    })
+    (λ c. unknown-kept c)
+    (λ c. cores-kept c)
+    (λ c. cuts-kept c)
     (λ c.
-    let l = turn (settled (c .before)) in
-    let i = l .before .loop .inv in (
-      record { inUnknown = c .before .before .before .before .before .before .before .unknown .given ∙ i .0 .inUnknown; inCores = c .before .before .before .before .before .cores .given ∙ i .0 .inCores; inCuts = c .before .before .before .cuts .given ∙ i .0 .inCuts },
-      next _ _ _ _ _ _ _ (i .1) (l .loop-test .taken) _ _ _ _ (settled (c .before) .settle .ensures) (c .next-marked2 .ensures),
-    ))
-    (λ c. c .before .loop .inv .0 .inUnknown)
-    (λ c. c .before .loop .inv .0 .inCores)
-    (λ c. c .before .loop .inv .0 .inCuts)
-    (λ c. all _ _ _ _ _ _ _ (c .before .loop .inv .1) (c .loop-test .left)))
+    let d = c .before .before .before .before .before .before .settle-all .ensures in
+    let p = begun c .pre in (
+      is-tableBy (d .noneUnknown) (unknown-kept c ∙ p .inUnknown) (λ w. omega (arith, c .before .before .before .before .slice-known7 .given w)),
+      (
+        is-tableBy (d .allCores) (cores-kept c ∙ p .inCores) (λ w. omega (arith, c .before .before .slice-known8 .given w)),
+        is-tableBy (d .allCuts) (cuts-kept c ∙ p .inCuts) (λ w. omega (arith, c .slice-known9 .given w)),
+      ),
+    )))

@@ -23,8 +23,10 @@ must-of-spec =
     let all = c .before .before .full .ensures in
     let h = judgeBy (s .args .masks .now) (s .args .t) in
     record { judges = s .pre; itself = all; holds = verdict h all (c .before .is-held .ensures) (c .if1 .taken) })
+    (λ c κs. tt)
     (λ c. c .needed .ensures)
     (λ c.
-    let s = c .before .before .before .before in
+    let e = c .before in
+    let s = e .before .before .before .before in
     let h = judgeBy (s .args .masks .now) (s .args .t) in
-    sym (full-broken _ h (s .pre .more) (verdict h (c .before .before .full .ensures) (c .before .is-held .ensures) (c .if1 .left)) .noMust)))
+    c .empty .ensures ∙ sym (full-broken _ h (s .pre .more) (verdict h (e .before .before .full .ensures) (e .before .is-held .ensures) (e .if1 .left)) .noMust)))

@@ -13,7 +13,7 @@ put-byte-spec =
     (tie.spec
     (λ c. search needs)
     (λ c. sym (passed _ _ (c .before .if1 .taken)))
-    (λ c. sym (left-out _ _ (omega arith) (c .if2 .taken)))
+    (λ c. sym (left-out _ _ (omega arith) (omega arith)))
     (λ c. search needs)
     (λ c. search needs)
     (λ c. search needs)

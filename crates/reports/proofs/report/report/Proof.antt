@@ -1,49 +1,48 @@
--- `reports::report::report` meets its contract: what is put is the report of the text as it was read, and the page takes its window of it.
--- Assumes nothing.
-use Prim.Native.Nat.{ℕ}
-use mathlib.Core.Path.{_≡_, refl, sym, ap, _∙_}
+-- `reports::report::report` meets its contract: the page takes its window of the report on the part of the input that is judged, and no report
+-- is so long that the next page's place would not fit. Assumes nothing.
+use Prim.Native.Nat.{ℕ, _+_, _≤_}
+use mathlib.Core.Path.{_≡_}
+use mathlib.Core.Bool.{false}
 use mathlib.Core.List.{List}
+use native.Mathlib.Omega.{arith}
 use borrow.Author.Needs.{needs}
 use lib.ListN.{length}
 use Rattle.sets.specs.Lists.{overwritten}
-use Rattle.models.specs.declared.model.Outcome.{Outcome}
-use Rattle.models.specs.declared.model.Outcome.the-variants.{Accepted, Refused}
-use Rattle.codremif.specs.Answers.{textOutcome}
-use Rattle.codremif.specs.Laws.Answers.{is-read, is-refused}
-use Rattle.models.specs.Written.{Described, modelIn}
-use Rattle.reports.specs.Page.{Page, put, window}
-use Rattle.reports.specs.Laws.Page.{page-taken}
-use Rattle.reports.specs.Report.{modelReport, refusalReport, reportOn, reportOf}
-use Rattle.reports.proofs.Putting.{put-as}
+use Rattle.reports.specs.Page.{Page, put, window, printedOf}
+use Rattle.reports.specs.Laws.Page.{Taken, page-taken, printed-is, next-within}
+use Rattle.reports.specs.Laws.Length.{report-length}
+use Rattle.reports.specs.Report.{reportOf, judgedPart}
 use Rattle.reports.proofs.report.report.Statement.{statement}
 use Rattle.reports.proofs.report.report.Tie as tie
 
-written : (text lent : List ℕ) (from : ℕ) (o : Outcome) → textOutcome text ≡ o → (q : Page)
-    → q ≡ put (reportOn o (modelIn text)) (record { skip = from; at = 0; bytes = lent })
-    → (q .at ≡ length (window from (length lent) (reportOf text))) × (q .bytes ≡ overwritten (window from (length lent) (reportOf text)) lent)
-unfolding reportOf
-written text lent from o e q made =
-    let t = page-taken (reportOf text) lent from in
-    let all : q ≡ put (reportOf text) (record { skip = from; at = 0; bytes = lent }) =
-    made ∙ ap (λ (x : Outcome). put (reportOn x (modelIn text)) (record { skip = from; at = 0; bytes = lent })) (sym e) in
-    (ap (λ (p : Page). p .at) all ∙ t .place, ap (λ (p : Page). p .bytes) all ∙ t .bytes)
+-- the report of the text is put on an empty page; the text is the judged part of the input
+module _ (input text lent : List ℕ) (from : ℕ) (q : Page) (part : text ≡ judgedPart input) (made : q ≡ put (reportOf text) (record { skip = from; at = 0; more = false; bytes = lent })) where
+  whole : List ℕ
+  whole = reportOf (judgedPart input)
 
-refused : (number line : ℕ) (M : Described) → refusalReport number line ≡ reportOn (Refused number line) M
-unfolding reportOn
-refused number line M = refl
+  takes : Taken whole lent from q
+  unfolding whole
+  takes = rw (made, part) (page-taken (reportOf (judgedPart input)) lent from)
 
-accepted : (M : Described) → modelReport M ≡ reportOn Accepted M
-unfolding reportOn
-accepted M = refl
+  next-fits : (bound : ℕ) → from ≤ bound → 33554432 ≤ bound → from + q .at ≤ bound
+  unfolding whole
+  next-fits bound h k =
+      omega (arith, takes .place, next-within whole from (length lent) bound h (omega (arith, report-length (judgedPart input))))
 
--- behind the reading, from where its outcome is known to be a refusal, and the beginning
-abbrev read-refused : tie.After-outcome → tie.After-read-model
-read-refused p = p .before .before
+  says : record { bytes = q .at; next = from + q .at; more = q .more } ≡ printedOf from (length lent) (reportOf (judgedPart input))
+  unfolding whole
+  says = printed-is whole lent from q takes
 
-abbrev read-accepted : tie.After-enum-told → tie.After-read-model
-read-accepted p = p .before .before
+  holds : q .bytes ≡ overwritten (window from (length lent) (reportOf (judgedPart input))) lent
+  unfolding whole
+  holds = takes .bytes
 
-abbrev start : tie.After-read-model → tie.Start
+-- where the judged part is known, from behind the report
+abbrev asked : tie.After-whole-report → tie.After-judged
+asked p = p .before .before
+
+-- the beginning
+abbrev start : tie.After-judged → tie.Start
 start p = p .before .before .before
 
 pub report-spec : {M : Type 1} → statement M
@@ -51,21 +50,12 @@ report-spec =
     tie.close
     (tie.spec
     (λ c κs. search needs)
-    (λ c. search needs)
     (λ c κs. search needs)
-    (λ c. search needs)
-    (λ c κs. is-read _ (c .before .before .before .before .read-model .ensures) (c .before .before .enum-told .given .1))
+    (λ c.
+    let w = c .before .before in
+    let n = next-fits _ _ _ (start (asked w) .args .from) _ (asked w .judged .ensures) (w .whole-report .ensures) 18446744073709551615 (omega arith) (omega arith) in
+    omega arith)
     (λ c. search needs)
     (λ c.
-    let o = c .before .before .before .before .before in
-    let r = read-refused o in
-    let a = start r .args in
-    written (a .text .now) (a .page .now) (a .from) _ (is-refused _ (r .read-model .ensures) (o .outcome .given .1)) _
-    (put-as _ _ _ _ (c .before .before .refusal .ensures) (refused _ _ _)))
-    (λ c. search needs)
-    (λ c.
-    let o = c .before .before .before .before .before in
-    let r = read-accepted o in
-    let a = start r .args in
-    written (a .text .now) (a .page .now) (a .from) _ (is-read _ (r .read-model .ensures) (o .enum-told .given .1) .outcome) _
-    (put-as _ _ _ _ (c .before .before .model-report .ensures) (accepted _))))
+    let w = c .before .before in
+    (says _ _ _ _ _ (asked w .judged .ensures) (w .whole-report .ensures), holds _ _ _ _ _ (asked w .judged .ensures) (w .whole-report .ensures))))

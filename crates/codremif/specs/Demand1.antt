@@ -1,0 +1,79 @@
+-- What demand 1 of the mission says of the calls: each is refused by the first fitting number, and then every other part of the answer is 0 and no
+-- lent byte has changed; where no number fits it is accepted. The numbers of the text are those of `Rattle.models.specs.Refusals`; the calls add
+-- theirs. The theorems are in `Demands`. From document 01, "When a call is turned away". Assumes nothing: these are definitions.
+use Prim.Native.Nat.{ℕ, _+_, _*_, _%_, _^_, _≤_, _<_}
+use mathlib.Core.Path.{_≡_}
+use mathlib.Core.Logic.{_↔_, _⊎_}
+use mathlib.Core.List.{List, []}
+use lib.ListN.{length}
+use Rattle.models.specs.Refusals.{FitsAt, ComesBefore}
+use Rattle.systems.specs.System.{Trace}
+use Rattle.cores.specs.declared.which.WhichList.{WhichList}
+use Rattle.codremif.specs.declared.answers.JudgeAnswer.the-variants.{Refused as JudgeRefused}
+use Rattle.codremif.specs.declared.answers.ListAnswer.the-variants.{Refused as ListRefused}
+use Rattle.codremif.specs.declared.answers.MustAnswer.the-variants.{Refused as MustRefused}
+use Rattle.codremif.specs.Answers.{rulesIn, systemIn, listIn, judgeAnswer, judgeBytes, listAnswer, listBytes, mustAnswer}
+use Rattle.codremif.specs.Packing.{Parts, refused, judgeParts, listParts, mustParts, packed}
+
+-- ---- the numbers of each call
+
+-- Judging a set: 1 to 9, 10, 11.
+pub data JudgeFits (text : List ℕ) (S : ℕ) (lent : List ℕ) : (number line : ℕ) → Type 0 where
+  judge-text : {number line : ℕ} → FitsAt text number line → JudgeFits text S lent number line
+  -- 10. "The judged set is 2^R or more (line 0)."
+  set-beyond : 2 ^ rulesIn text ≤ S → JudgeFits text S lent 10 0
+  -- 11. "The lent bytes are fewer than this answer's trace or list needs (line 0)."
+  trace-longer : {run : List ℕ} → Trace (systemIn text S) run → length lent < length run → JudgeFits text S lent 11 0
+
+-- Listing the cores or the cuts: 1 to 9, 11. Each set takes two bytes.
+pub data ListFits (which : WhichList) (text lent : List ℕ) : (number line : ℕ) → Type 0 where
+  list-text : {number line : ℕ} → FitsAt text number line → ListFits which text lent number line
+  list-longer : length lent < 2 * length (listIn which text) → ListFits which text lent 11 0
+
+-- Giving MUST: 1 to 9, as `FitsAt` has them.
+
+-- ---- the order
+
+-- "Numbers 1 to 8 are tried line by line, in this order within a line; after the whole text come 9, 10 and 11."
+abbrev pub TriedBefore : (number line number′ line′ : ℕ) → Type 0
+TriedBefore number line number′ line′ =
+    ((number ≤ 9) × (9 < number′)) ⊎ (((9 < number) × (number < number′)) ⊎ ((number ≤ 9) × ((number′ ≤ 9) × ComesBefore number line number′ line′)))
+
+-- The number fits with the line, and none that is tried before it fits.
+pub record FirstOf (Fits : ℕ → ℕ → Type 0) (number line : ℕ) : Type 0 where
+  pub fits : Fits number line
+  pub none : (number′ line′ : ℕ) → TriedBefore number′ line′ number line → ¬ Fits number′ line′
+
+-- ---- the demand
+
+-- A call that the numbers `Fits` can refuse, with these lent bytes, gave the answer and left the bytes.
+pub record Refusals {A : Type 0} (Fits : ℕ → ℕ → Type 0) (refuse : ℕ → ℕ → A) (parts : A → Parts) (lent : List ℕ) (answer : A) (bytes : List ℕ) : Type 0 where
+  -- It is refused by a number with its line exactly when this is the first that fits.
+  pub first : (number line : ℕ) → (answer ≡ refuse number line) ↔ FirstOf Fits number line
+  -- Where no number fits it is accepted, and only there.
+  pub accepted : ((number line : ℕ) → ¬ (answer ≡ refuse number line)) ↔ ((number line : ℕ) → ¬ Fits number line)
+  -- Refused, every other part of the answer is 0, and no lent byte has changed.
+  pub zero : (number line : ℕ) → answer ≡ refuse number line → parts answer ≡ refused number line
+  pub kept : (number line : ℕ) → answer ≡ refuse number line → bytes ≡ lent
+
+-- Every call, for a text, every set and all lent bytes.
+pub record Demand1 (text : List ℕ) : Type 0 where
+  pub judge : (S : ℕ) (lent : List ℕ) → Refusals (JudgeFits text S lent) JudgeRefused judgeParts lent (judgeAnswer text S lent) (judgeBytes text S lent)
+  pub list : (which : WhichList) (lent : List ℕ)
+      → Refusals (ListFits which text lent) ListRefused listParts lent (listAnswer which text lent) (listBytes which text lent)
+  pub must : Refusals (FitsAt text) MustRefused mustParts [] (mustAnswer text) []
+
+-- ---- the same of the exported calls
+
+-- The 64-bit answer x of such a call: its lowest byte is 0 exactly where no number fits; else x has the first fitting number and its line, and
+-- nothing else, and no lent byte has changed.
+pub record HostRefusals (Fits : ℕ → ℕ → Type 0) (lent : List ℕ) (x : ℕ) (bytes : List ℕ) : Type 0 where
+  pub accepted : (x % 256 ≡ 0) ↔ ((number line : ℕ) → ¬ Fits number line)
+  pub first : (number line : ℕ) → FirstOf Fits number line → x ≡ number + 256 * line
+  pub kept : (number line : ℕ) → FirstOf Fits number line → bytes ≡ lent
+
+pub record HostDemand1 (text : List ℕ) : Type 0 where
+  pub judge : (S : ℕ) (lent : List ℕ) → HostRefusals (JudgeFits text S lent) lent (packed (judgeParts (judgeAnswer text S lent))) (judgeBytes text S lent)
+  pub list : (which : WhichList) (lent : List ℕ)
+      → HostRefusals (ListFits which text lent) lent (packed (listParts (listAnswer which text lent))) (listBytes which text lent)
+  pub must : HostRefusals (FitsAt text) [] (packed (mustParts (mustAnswer text))) []

@@ -1,0 +1,300 @@
+-- Demand 1 is true of every call: it is refused by the first fitting number and its line, every other part of the answer is then 0, and no lent
+-- byte changes; where no number fits it is accepted. From the theorem about reading (`Rattle.models.specs.Refused`) and the laws of the answers.
+use Prim.Native.Nat.{ℕ, _*_, _^_, _≤_, _<_}
+use mathlib.Core.Path.{_≡_, refl, sym, ap, ap₂, _∙_, subst₂}
+use mathlib.Core.Logic.{_↔_, _⊎_, inl, inr}
+use mathlib.Core.Bool.{Bool, true, false}
+use mathlib.Core.List.{List, []}
+use native.Mathlib.Omega.{arith}
+use native.Mathlib.Decide.{decLt}
+use borrow.Author.Tests.{leb-true, leb-false, ltb-true, ltb-false}
+use lib.Dec.{leb, ltb}
+use lib.ListN.{length}
+use Rattle.sets.specs.Lists.{bytesOf}
+use Rattle.sets.specs.Laws.Lists.{length-bytesOf}
+use Rattle.models.specs.declared.model.Outcome.{Outcome}
+use Rattle.models.specs.declared.model.Outcome.the-variants.{Accepted, Refused}
+use Rattle.models.specs.Refusals.{FitsAt, line-missing, count-wrong, name-improper, name-taken, length-wrong, byte-other, letter-beyond, letter-capital, not-one, bytes-follow, First}
+use Rattle.models.specs.Laws.Refusals.{RightOutcome, none-fits, first-fits, right-outcome}
+use Rattle.systems.specs.System.{System, Trace}
+use Rattle.systems.specs.Verdict.{holds, traceOf}
+use Rattle.systems.specs.Judged.{judged}
+use Rattle.cores.specs.declared.which.WhichList.{WhichList}
+use Rattle.codremif.specs.declared.answers.JudgeAnswer.the-variants.{Refused as JudgeRefused}
+use Rattle.codremif.specs.declared.answers.ListAnswer.the-variants.{Refused as ListRefused, Count}
+use Rattle.codremif.specs.declared.answers.MustAnswer.the-variants.{Refused as MustRefused, Set}
+use Rattle.codremif.specs.Answers.{rulesIn, systemIn, traceIn, listIn, mustIn, _orElse_, refusedIf, textOutcome, judgeOutcome, listOutcome, given, after, judgeAnswer, judgeBytes, listAnswer, listBytes, mustAnswer}
+use Rattle.codremif.specs.Packing.{Parts, refused, judgeParts, listParts, mustParts, packed}
+use Rattle.codremif.specs.Demand1.{JudgeFits, judge-text, set-beyond, trace-longer, ListFits, list-text, list-longer, FirstOf, Refusals, Demand1, HostRefusals, HostDemand1}
+use Rattle.codremif.specs.Laws.Answers.{given-refused, given-accepted, refusal-given, not-refused}
+use Rattle.codremif.specs.Laws.Host.{HostReads, judge-reads, list-reads, must-reads}
+
+-- ---- the numbers of a text are 1 to 9
+
+text-most : {text : List ℕ} {number line : ℕ} → FitsAt text number line → number ≤ 9
+text-most (line-missing d n) = omega arith
+text-most (count-wrong c v n) = omega arith
+text-most (name-improper r v n) = omega arith
+text-most (name-taken l d e) = omega arith
+text-most (length-wrong e n) = omega arith
+text-most (byte-other e m n) = omega arith
+text-most (letter-beyond e n m b) = omega arith
+text-most (letter-capital e m b) = omega arith
+text-most (not-one e n) = omega arith
+text-most (bytes-follow r n) = omega arith
+
+-- ---- the outcome of a call is right
+
+-- It is accepted and no number fits, or it is refused by the first that fits.
+data Right (Fits : ℕ → ℕ → Type 0) : Outcome → Type 0 where
+  fits-none : ((number line : ℕ) → ¬ Fits number line) → Right Fits Accepted
+  fits-first : {number line : ℕ} → FirstOf Fits number line → Right Fits (Refused number line)
+
+-- Two that are first are the same, where a number above 9 has line 0.
+one-first : {Fits : ℕ → ℕ → Type 0} → ((number line : ℕ) → Fits number line → 9 < number → line ≡ 0)
+    → {n l m k : ℕ} → FirstOf Fits n l → FirstOf Fits m k → (n ≡ m) × (l ≡ k)
+one-first zero-line {n} {l} {m} {k} f g = go (decLt 9 n) (decLt 9 m)
+  where
+    both : n ≤ 9 → m ≤ 9 → Dec (l < k) → Dec (k < l) → Dec (n < m) → Dec (m < n) → (n ≡ m) × (l ≡ k)
+    both a b (yes h) _ _ _ = absurd (g .none n l (inr (inr (a, (b, inl h)))) (f .fits))
+    both a b (no h) (yes i) _ _ = absurd (f .none m k (inr (inr (b, (a, inl i)))) (g .fits))
+    both a b (no h) (no i) (yes j) _ = absurd (g .none n l (inr (inr (a, (b, inr (omega arith, j))))) (f .fits))
+    both a b (no h) (no i) (no j) (yes o) = absurd (f .none m k (inr (inr (b, (a, inr (omega arith, o))))) (g .fits))
+    both a b (no h) (no i) (no j) (no o) = omega arith
+
+    above : 9 < n → 9 < m → Dec (n < m) → Dec (m < n) → (n ≡ m) × (l ≡ k)
+    above a b (yes h) _ = absurd (g .none n l (inr (inl (a, h))) (f .fits))
+    above a b (no h) (yes i) = absurd (f .none m k (inr (inl (b, i))) (g .fits))
+    above a b (no h) (no i) = (omega arith, zero-line n l (f .fits) a ∙ sym (zero-line m k (g .fits) b))
+
+    go : Dec (9 < n) → Dec (9 < m) → (n ≡ m) × (l ≡ k)
+    go (yes a) (yes b) = above a b (decLt n m) (decLt m n)
+    go (yes a) (no b) = absurd (f .none m k (inl (omega arith, a)) (g .fits))
+    go (no a) (yes b) = absurd (g .none n l (inl (omega arith, b)) (f .fits))
+    go (no a) (no b) = both (omega arith) (omega arith) (decLt l k) (decLt k l) (decLt n m) (decLt m n)
+
+-- A call refused by the text's first number is refused by its own first number, where its other numbers are above 9.
+text-first : {text : List ℕ} (Fits : ℕ → ℕ → Type 0) → ((number line : ℕ) → FitsAt text number line → Fits number line)
+    → ((number line : ℕ) → number ≤ 9 → Fits number line → FitsAt text number line)
+    → {number line : ℕ} → First text number line → FirstOf Fits number line
+text-first {text} Fits into out {number} {line} f = record { fits = into number line (f .fits); none = earlier }
+  where
+    earlier : (n l : ℕ) → ((n ≤ 9) × (9 < number)) ⊎ (((9 < n) × (n < number)) ⊎ ((n ≤ 9) × ((number ≤ 9) × ((l < line) ⊎ ((l ≡ line) × (n < number)))))) → ¬ Fits n l
+    earlier n l (inl h) g = omega (arith, h .1, text-most (f .fits))
+    earlier n l (inr (inl h)) g = omega (arith, h .0, h .1, text-most (f .fits))
+    earlier n l (inr (inr h)) g = f .none n l (h .1 .1) (out n l (h .0) g)
+
+-- A number above 9 that fits is first where no smaller one fits.
+least-first : (Fits : ℕ → ℕ → Type 0) {number line : ℕ} → 9 < number → Fits number line → ((n l : ℕ) → Fits n l → number ≤ n) → FirstOf Fits number line
+least-first Fits {number} {line} above f least = record { fits = f; none = earlier }
+  where
+    earlier : (n l : ℕ) → ((n ≤ 9) × (9 < number)) ⊎ (((9 < n) × (n < number)) ⊎ ((n ≤ 9) × ((number ≤ 9) × ((l < line) ⊎ ((l ≡ line) × (n < number)))))) → ¬ Fits n l
+    earlier n l (inl h) g = omega (arith, h .0, least n l g)
+    earlier n l (inr (inl h)) g = omega (arith, h .1, least n l g)
+    earlier n l (inr (inr h)) g = omega (arith, h .1 .0)
+
+-- ---- judging a set
+
+module _ (text : List ℕ) (S : ℕ) (lent : List ℕ) where
+  judge-zero : (number line : ℕ) → JudgeFits text S lent number line → 9 < number → line ≡ 0
+  judge-zero number line (judge-text f) h = absurd (omega (arith, text-most f))
+  judge-zero number line (set-beyond l) h = refl
+  judge-zero number line (trace-longer t l) h = refl
+
+  judge-out : (number line : ℕ) → number ≤ 9 → JudgeFits text S lent number line → FitsAt text number line
+  judge-out number line h (judge-text f) = f
+  judge-out number line h (set-beyond l) = absurd (omega arith)
+  judge-out number line h (trace-longer t l) = absurd (omega arith)
+
+  M : System
+  M = systemIn text S
+
+  -- a set whose trace is longer than the lent bytes is broken
+  its-trace : length lent < length (traceIn text S) → Trace M (traceIn text S)
+  unfolding M traceIn
+  its-trace l = go (holds M) refl
+    where
+      go : (b : Bool) → holds M ≡ b → Trace M (traceOf M)
+      go true e = absurd (omega (arith, ap length (judged M .held e)))
+      go false e = judged M .broken e
+
+  module _ (no-text : (number line : ℕ) → ¬ FitsAt text number line) where
+    from-ten : (n l : ℕ) → JudgeFits text S lent n l → 10 ≤ n
+    from-ten n l (judge-text f) = absurd (no-text n l f)
+    from-ten n l (set-beyond h) = omega arith
+    from-ten n l (trace-longer t h) = omega arith
+
+    from-eleven : S < 2 ^ rulesIn text → (n l : ℕ) → JudgeFits text S lent n l → 11 ≤ n
+    from-eleven h n l (judge-text f) = absurd (no-text n l f)
+    from-eleven h n l (set-beyond k) = absurd (omega arith)
+    from-eleven h n l (trace-longer t k) = omega arith
+
+    none-left : S < 2 ^ rulesIn text → length (traceIn text S) ≤ length lent → (n l : ℕ) → ¬ JudgeFits text S lent n l
+    unfolding M traceIn
+    none-left h k n l (judge-text f) = no-text n l f
+    none-left h k n l (set-beyond b) = omega arith
+    none-left h k n l (trace-longer {run = run} t b) = omega (arith, ap length (judged M .only run t))
+
+    by-length : S < 2 ^ rulesIn text → (b : Bool) → ltb (length lent) (length (traceIn text S)) ≡ b → Right (JudgeFits text S lent) (refusedIf b 11)
+    unfolding refusedIf M
+    by-length h true e =
+        let short = ltb-true (length lent) (length (traceIn text S)) e in
+        fits-first (least-first (JudgeFits text S lent) (omega arith) (trace-longer (its-trace short) short) (from-eleven h))
+    by-length h false e = fits-none (none-left h (ltb-false (length lent) (length (traceIn text S)) e))
+
+    by-set : (b : Bool) → leb (2 ^ rulesIn text) S ≡ b
+        → Right (JudgeFits text S lent) (refusedIf b 10 orElse refusedIf (ltb (length lent) (length (traceIn text S))) 11)
+    unfolding refusedIf _orElse_
+    by-set true e = fits-first (least-first (JudgeFits text S lent) (omega arith) (set-beyond (leb-true (2 ^ rulesIn text) S e)) from-ten)
+    by-set false e = by-length (leb-false (2 ^ rulesIn text) S e) (ltb (length lent) (length (traceIn text S))) refl
+
+  judge-right : Right (JudgeFits text S lent) (judgeOutcome text S lent)
+  unfolding judgeOutcome textOutcome _orElse_
+  judge-right = go (right-outcome text)
+    where
+      go : {o : Outcome} → RightOutcome text o
+          → Right (JudgeFits text S lent) (o orElse refusedIf (leb (2 ^ rulesIn text) S) 10 orElse refusedIf (ltb (length lent) (length (traceIn text S))) 11)
+      go (none-fits n) = by-set n (leb (2 ^ rulesIn text) S) refl
+      go (first-fits f) = fits-first (text-first (JudgeFits text S lent) (λ n l g. judge-text g) judge-out f)
+
+-- ---- listing sets
+
+module _ (which : WhichList) (text lent : List ℕ) where
+  list-zero : (number line : ℕ) → ListFits which text lent number line → 9 < number → line ≡ 0
+  list-zero number line (list-text f) h = absurd (omega (arith, text-most f))
+  list-zero number line (list-longer l) h = refl
+
+  list-out : (number line : ℕ) → number ≤ 9 → ListFits which text lent number line → FitsAt text number line
+  list-out number line h (list-text f) = f
+  list-out number line h (list-longer l) = absurd (omega arith)
+
+  module _ (no-text : (number line : ℕ) → ¬ FitsAt text number line) where
+    list-eleven : (n l : ℕ) → ListFits which text lent n l → 11 ≤ n
+    list-eleven n l (list-text f) = absurd (no-text n l f)
+    list-eleven n l (list-longer h) = omega arith
+
+    list-none : 2 * length (listIn which text) ≤ length lent → (n l : ℕ) → ¬ ListFits which text lent n l
+    list-none h n l (list-text f) = no-text n l f
+    list-none h n l (list-longer k) = omega arith
+
+    list-by-length : (b : Bool) → ltb (length lent) (length (bytesOf (listIn which text))) ≡ b → Right (ListFits which text lent) (refusedIf b 11)
+    unfolding refusedIf
+    list-by-length true e =
+        fits-first
+        (least-first (ListFits which text lent) (omega arith)
+        (list-longer (omega (arith, ltb-true (length lent) (length (bytesOf (listIn which text))) e, length-bytesOf (listIn which text)))) list-eleven)
+    list-by-length false e =
+        fits-none (list-none (omega (arith, ltb-false (length lent) (length (bytesOf (listIn which text))) e, length-bytesOf (listIn which text))))
+
+  list-right : Right (ListFits which text lent) (listOutcome which text lent)
+  unfolding listOutcome textOutcome _orElse_
+  list-right = go (right-outcome text)
+    where
+      go : {o : Outcome} → RightOutcome text o
+          → Right (ListFits which text lent) (o orElse refusedIf (ltb (length lent) (length (bytesOf (listIn which text)))) 11)
+      go (none-fits n) = list-by-length n (ltb (length lent) (length (bytesOf (listIn which text)))) refl
+      go (first-fits f) = fits-first (text-first (ListFits which text lent) (λ n l g. list-text g) list-out f)
+
+-- ---- giving MUST
+
+text-zero : (text : List ℕ) (number line : ℕ) → FitsAt text number line → 9 < number → line ≡ 0
+text-zero text number line f h = absurd (omega (arith, text-most f))
+
+must-right : (text : List ℕ) → Right (FitsAt text) (textOutcome text)
+unfolding textOutcome
+must-right text = go (right-outcome text)
+  where
+    go : {o : Outcome} → RightOutcome text o → Right (FitsAt text) o
+    go (none-fits n) = fits-none n
+    go (first-fits f) = fits-first (text-first (FitsAt text) (λ n l g. g) (λ n l h g. g) f)
+
+-- ---- a call whose outcome is right
+
+module _ {Fits : ℕ → ℕ → Type 0} (zero-line : (number line : ℕ) → Fits number line → 9 < number → line ≡ 0) where
+  refused-first : {o : Outcome} → Right Fits o → (number line : ℕ) → (o ≡ Refused number line) ↔ FirstOf Fits number line
+  refused-first (fits-none n) number line = (λ q. let z : _≡_ {A = ℕ} 0 1 = cc in absurd (omega arith), λ f. absurd (n number line (f .fits)))
+  refused-first (fits-first {number = m} {line = k} g) number line = (
+    λ q. let a : m ≡ number = cc in let b : k ≡ line = cc in subst₂ (FirstOf Fits) a b g,
+    λ f. let e = one-first zero-line g f in ap₂ Refused (e .0) (e .1),
+  )
+
+  accepted-none : {o : Outcome} → Right Fits o → (o ≡ Accepted) ↔ ((number line : ℕ) → ¬ Fits number line)
+  accepted-none (fits-none n) = (λ q. n, λ f. refl)
+  accepted-none (fits-first {number = m} {line = k} g) = (λ q. let z : _≡_ {A = ℕ} 0 1 = cc in absurd (omega arith), λ f. absurd (f m k (g .fits)))
+
+  -- what such a call gives, where refusals tell their number and line and no answer is one
+  module _ {A : Type 0} (refuse : ℕ → ℕ → A) (parts : A → Parts) (told : (number line : ℕ) → parts (refuse number line) ≡ refused number line) (a : A)
+      (other : (number line : ℕ) → ¬ (a ≡ refuse number line)) (same : (n l number line : ℕ) → refuse n l ≡ refuse number line → Refused n l ≡ Refused number line)
+      {o : Outcome} (r : Right Fits o) where
+    refusals : (new lent : List ℕ) → Refusals Fits refuse parts lent (given refuse o a) (after o new lent)
+    unfolding after
+    refusals new lent = record {
+      first = λ number line. (
+        λ q. refused-first r number line .0 (refusal-given refuse a other same o q),
+        λ f. given-refused refuse a (refused-first r number line .1 f),
+      );
+      accepted = (
+        λ none. accepted-none r .0 (never none),
+        λ f number line q. other number line (sym (given-accepted refuse a (accepted-none r .1 f)) ∙ q),
+      );
+      zero = λ number line q. ap parts q ∙ told number line;
+      kept = λ number line q. given-refused (λ n l. lent) _ (refusal-given refuse a other same o q);
+    }
+      where
+        never : ((number line : ℕ) → ¬ (given refuse o a ≡ refuse number line)) → o ≡ Accepted
+        never none = go o refl
+          where
+            go : (p : Outcome) → o ≡ p → p ≡ Accepted
+            go Accepted e = refl
+            go (Refused n l) e = absurd (none n l (given-refused refuse a e))
+
+    -- the same of the packed number, whose lowest byte is 0 exactly where the call is accepted
+    host-refusals : (new lent : List ℕ) → HostReads o (parts (given refuse o a)) → HostRefusals Fits lent (packed (parts (given refuse o a))) (after o new lent)
+    unfolding after packed refused
+    host-refusals new lent h = record {
+      accepted = (
+        λ e. accepted-none r .0 (h .zero .0 (sym (h .parts .number) ∙ e)),
+        λ f. h .parts .number ∙ h .zero .1 (accepted-none r .1 f),
+      );
+      first = λ number line f.
+          let e = ap parts (given-refused refuse a (refused-first r number line .1 f)) ∙ told number line in
+          ap packed e ∙ omega arith;
+      kept = λ number line f. given-refused (λ n l. lent) _ (refused-first r number line .1 f);
+    }
+
+-- ---- the demand
+
+module _ (text : List ℕ) where
+  -- no answer of an accepted call is a refusal
+  count-other : (n number line : ℕ) → ¬ (Count n ≡ ListRefused number line)
+  count-other n number line q = let z : _≡_ {A = ℕ} 0 1 = cc in omega arith
+
+  set-other : (S number line : ℕ) → ¬ (Set S ≡ MustRefused number line)
+  set-other S number line q = let z : _≡_ {A = ℕ} 0 1 = cc in omega arith
+
+  pub calls-meet-demand1 : Demand1 text
+  unfolding judgeAnswer judgeBytes listAnswer listBytes mustAnswer judgeParts listParts mustParts
+  calls-meet-demand1 =
+      let m = refusals (text-zero text) MustRefused mustParts (λ n l. refl) _ (set-other (mustIn text)) (λ n l k j q. cc) (must-right text) [] [] in
+      record {
+        judge = λ S lent.
+            refusals (judge-zero text S lent) JudgeRefused judgeParts (λ n l. refl) _ (not-refused (systemIn text S)) (λ n l k j q. cc) (judge-right text S lent) (traceIn text S) lent;
+        list = λ which lent.
+            refusals (list-zero which text lent) ListRefused listParts (λ n l. refl) _ (count-other (length (listIn which text))) (λ n l k j q. cc) (list-right which text lent)
+            (bytesOf (listIn which text)) lent;
+        must = record { first = m .first; accepted = m .accepted; zero = m .zero; kept = λ n l q. refl };
+      }
+
+  pub hosts-meet-demand1 : HostDemand1 text
+  unfolding judgeAnswer judgeBytes listAnswer listBytes mustAnswer judgeParts listParts mustParts
+  hosts-meet-demand1 =
+      let m = host-refusals (text-zero text) MustRefused mustParts (λ n l. refl) _ (set-other (mustIn text)) (λ n l k j q. cc) (must-right text) [] [] (must-reads text) in
+      record {
+        judge = λ S lent.
+            host-refusals (judge-zero text S lent) JudgeRefused judgeParts (λ n l. refl) _ (not-refused (systemIn text S)) (λ n l k j q. cc) (judge-right text S lent) (traceIn text S) lent
+            (judge-reads text S lent);
+        list = λ which lent.
+            host-refusals (list-zero which text lent) ListRefused listParts (λ n l. refl) _ (count-other (length (listIn which text))) (λ n l k j q. cc) (list-right which text lent)
+            (bytesOf (listIn which text)) lent (list-reads which text lent);
+        must = record { accepted = m .accepted; first = m .first; kept = λ n l f. refl };
+      }

@@ -1,0 +1,268 @@
+-- The reading of any text has the right outcome: where it refuses the text, the number and the line are the first that fit, and where it accepts the
+-- text none fits. From the laws of single lines, along the lines of the text.
+use Prim.Native.Nat.{ℕ, zero, suc, _+_, _-_, _≤_, _<_}
+use mathlib.Core.Path.{_≡_, refl, sym, ap, ap₂, _∙_, subst}
+use mathlib.Core.Logic.{_≢_, inl, inr, ⊎-elim}
+use mathlib.Core.Bool.{Bool, true, false, _&&_, _||_, false≢true}
+use mathlib.Core.List.{List, [], _∷_, _++_, append-assoc, flatMap}
+use native.Mathlib.Omega.{arith}
+use native.Mathlib.Decide.{decLt}
+use native.Mathlib.Numerals.{add-one}
+use borrow.Author.Tests.{eqb-true, eqb-false, ltb-true, ltb-false}
+use lib.Dec.{eqb, ltb}
+use lib.ListN.{length, drop, drop-of-length-le, length-drop}
+use lib.Seq.{drop-cons, drop-drop}
+use Rattle.sets.specs.Laws.Choice.{by-test}
+use Rattle.exprs.specs.Expr.{written}
+use Rattle.lines.specs.declared.classes.Class.the-variants.{InLine}
+use Rattle.lines.specs.declared.line.Line.{Line}
+use Rattle.lines.specs.declared.names.RuleLine.{RuleLine}
+use Rattle.lines.specs.Bytes.{same}
+use Rattle.lines.specs.Lines.{varsKey, rulesKey, initKey, propKey, ruleKey, lineLength, all, nameOf, isTaken, ruleLine}
+use Rattle.lines.specs.Written.{Rule, LegalRule, writtenRule}
+use Rattle.lines.specs.Laws.Bytes.{all-append, same-is}
+use Rattle.lines.specs.Laws.Lines.{line-append, rule-in-line, ruleKey-in-line}
+use Rattle.models.specs.declared.model.LineStart.{LineStart}
+use Rattle.models.specs.declared.model.Outcome.{Outcome}
+use Rattle.models.specs.declared.model.Outcome.the-variants.{Accepted, Refused}
+use Rattle.models.specs.declared.model.Reading.{Reading}
+use Rattle.models.specs.declared.model.Rules.{Rules}
+use Rattle.models.specs.Reading.{textStart, behindLine, noRules, ruled, nextRule, rulesRead, refusedReading, following, finished, readModel}
+use Rattle.models.specs.Written.{ruleAt}
+use Rattle.models.specs.Refusals.{afterLine, afterLines, vars-line, rules-line, init-line, prop-line, IsN, IsR, IsRuleLine, HasName, FitsAt, bytes-follow, First}
+use Rattle.models.specs.Laws.Ranges.{place₂, place₃, place₄, place₅}
+use Rattle.models.specs.Laws.Rules.{taken-back, Ruled, rules-back}
+use Rattle.models.specs.Laws.Grounds.{in-line-unbroken}
+use Rattle.models.specs.Laws.Fitting.{lines-more, lines-add, line-dropped, line-seam, one-name, fits-least, fits-behind, LineJudged, line-refused, line-passed, count-judged, state-judged, RuleJudged, rule-refused, rule-passed, TellsNames, rule-judged}
+
+-- ---- what fits first
+
+-- no number fits on a line before line k
+Clear : List ℕ → ℕ → Type 0
+Clear text k = (m l : ℕ) → l < k → ¬ FitsAt text m l
+
+clear-start : (text : List ℕ) → Clear text 1
+unfolding Clear
+clear-start text m l h f = omega (arith, fits-least f)
+
+clear-more : (text : List ℕ) (k : ℕ) → Clear text k → ((m : ℕ) → ¬ FitsAt text m k) → Clear text (k + 1)
+unfolding Clear
+clear-more text k clear none m l h f = go (decLt l k)
+  where
+    go : Dec (l < k) → ⊥
+    go (yes b) = clear m l b f
+    go (no b) = let e : l ≡ k = omega arith in none m (subst (FitsAt text m) e f)
+
+first-on : (text : List ℕ) (number k : ℕ) → Clear text k → FitsAt text number k → ((m : ℕ) → m < number → ¬ FitsAt text m k) → First text number k
+unfolding Clear
+first-on text number k clear fits least = record {
+  fits = fits;
+  none = λ m l b f. ⊎-elim (λ h. clear m l h f) (λ h. least m (h .1) (subst (FitsAt text m) (h .0) f)) b;
+}
+
+-- two numbers that both come first are the same, at the same line
+pub one-first : {text : List ℕ} {number line number′ line′ : ℕ} → First text number line → First text number′ line′ → (number ≡ number′) × (line ≡ line′)
+one-first {text} {number} {line} {number′} {line′} f g = go (decLt line line′) (decLt line′ line) (decLt number number′) (decLt number′ number)
+  where
+    go : Dec (line < line′) → Dec (line′ < line) → Dec (number < number′) → Dec (number′ < number) → (number ≡ number′) × (line ≡ line′)
+    go (yes h) _ _ _ = absurd (g .none number line (inl h) (f .fits))
+    go (no h) (yes k) _ _ = absurd (f .none number′ line′ (inl k) (g .fits))
+    go (no h) (no k) (yes a) _ = absurd (g .none number line (inr (omega arith, a)) (f .fits))
+    go (no h) (no k) (no a) (yes b) = absurd (f .none number′ line′ (inr (omega arith, b)) (g .fits))
+    go (no h) (no k) (no a) (no b) = omega arith
+
+-- ---- the lines before the rules
+
+-- The line of this number begins at the place.
+record Stands (text : List ℕ) (p : LineStart) : Type 0 where
+  least : 1 ≤ p .line
+  begins : afterLines (p .line - 1) text ≡ drop (p .at) text
+
+stands-next : {text : List ℕ} {p : LineStart} → Stands text p → Stands text (behindLine p (lineLength (drop (p .at) text) + 1))
+unfolding behindLine
+stands-next {text} {p} st =
+    let s : List ℕ = drop (p .at) text in
+    let next : p .line + 1 - 1 ≡ suc (p .line - 1) = omega (arith, st .least) in
+    record {
+      least = omega arith;
+      begins =
+          ap (λ n. afterLines n text) next
+          ∙ lines-more (p .line - 1) text
+          ∙ ap afterLine (st .begins)
+          ∙ line-dropped s
+          ∙ drop-drop (suc (lineLength s)) (p .at) text
+          ∙ ap (λ n. drop (p .at + n) text) (sym (add-one (lineLength s)));
+    }
+
+-- The outcome of a text is the right one.
+pub data RightOutcome (text : List ℕ) : Outcome → Type 0 where
+  none-fits : ((number line : ℕ) → ¬ FitsAt text number line) → RightOutcome text Accepted
+  first-fits : {number line : ℕ} → First text number line → RightOutcome text (Refused number line)
+
+following-right : (text : List ℕ) (p : LineStart) (Says : ℕ → Type 0) (next : ℕ → LineStart → Reading) {l : Line} → Stands text p → Clear text (p .line)
+    → LineJudged text (p .line) (drop (p .at) text) Says l
+    → ((v bytes : ℕ) → Says v → Stands text (behindLine p bytes) → Clear text (p .line + 1) → RightOutcome text (next v (behindLine p bytes) .outcome))
+    → RightOutcome text (following p l next .outcome)
+unfolding following
+following-right text p Says next st clear (line-refused {number} f least) go = first-fits (first-on text number (p .line) clear f least)
+following-right text p Says next st clear (line-passed {v} s none) go =
+    go v (lineLength (drop (p .at) text) + 1) s (stands-next st) (clear-more text (p .line) clear none)
+
+-- ---- the names of the rule lines
+
+-- the line of a legal rule, with its byte 10
+rule-line-is : (n : ℕ) → n ≤ 7 → (r : Rule) → LegalRule n r → (rest : List ℕ)
+    → (writtenRule r ++ rest ≡ (ruleKey ++ (r .name ++ 58 ∷ written (r .step))) ++ 10 ∷ rest)
+    × (all InLine (ruleKey ++ (r .name ++ 58 ∷ written (r .step))) ≡ true)
+unfolding writtenRule
+rule-line-is n h r l rest =
+    let v : List ℕ = r .name ++ 58 ∷ written (r .step) in
+    (line-append ruleKey v rest ∙ sym (append-assoc ruleKey v (10 ∷ rest)), all-append InLine ruleKey v ∙ ap₂ _&&_ ruleKey-in-line (rule-in-line n r h l))
+
+after-rules : (n : ℕ) → n ≤ 7 → (rs : List Rule) → ((j : ℕ) → j < length rs → LegalRule n (ruleAt rs j)) → (rest : List ℕ) (j : ℕ) → j ≤ length rs
+    → afterLines j (flatMap writtenRule rs ++ rest) ≡ flatMap writtenRule (drop j rs) ++ rest
+unfolding afterLines flatMap
+after-rules n h [] l rest zero b = refl
+after-rules n h [] l rest (suc j) b = absurd (omega arith)
+after-rules n h (r ∷ rs) l rest zero b = refl
+after-rules n h (r ∷ rs) l rest (suc j) b =
+    let more : List ℕ = flatMap writtenRule rs ++ rest in
+    let w = rule-line-is n h r (l 0 (omega arith)) more in
+    ap (λ x. afterLines j (afterLine x)) (append-assoc (writtenRule r) (flatMap writtenRule rs) rest ∙ w .0)
+    ∙ ap (afterLines j) (line-seam (ruleKey ++ (r .name ++ 58 ∷ written (r .step))) more (w .1))
+    ∙ after-rules n h rs (λ i k. l (suc i) (omega arith)) rest j (omega arith)
+
+is-taken : (text names steps name : List ℕ) (i : ℕ) → isTaken text names steps i name ≡ true → (j : ℕ) × (j < i) × (nameOf text names steps j ≡ name)
+unfolding isTaken
+is-taken text names steps name zero t = absurd (false≢true t)
+is-taken text names steps name (suc i) t = go (isTaken text names steps i name) (is-taken text names steps name i) t
+  where
+    go : (b : Bool) → (b ≡ true → (j : ℕ) × (j < i) × (nameOf text names steps j ≡ name)) → (b || same (nameOf text names steps i) name) ≡ true
+        → (j : ℕ) × (j < suc i) × (nameOf text names steps j ≡ name)
+    go true f t = let w = f refl in (w .0, omega (arith, w .1), w .2)
+    go false f t = (i, omega arith, same-is (nameOf text names steps i) name t)
+
+-- ---- the rule lines
+
+-- After i rule lines: no number fits so far, and the next line begins at the place; or the first number that fits is found.
+data RulesJudged (text : List ℕ) (i : ℕ) (r : Rules) : Type 0 where
+  rules-passed : r .number ≡ 0 → Stands text (r .place) → r .place .line ≡ 5 + i → Clear text (5 + i) → RulesJudged text i r
+  rules-refused : r .number ≢ 0 → First text (r .number) (r .place .line) → RulesJudged text i r
+
+still-refused : (text : List ℕ) (i : ℕ) {r : Rules} → r .number ≢ 0 → RulesJudged text i r → RulesJudged text (suc i) r
+still-refused text i h (rules-passed z st l c) = absurd (h z)
+still-refused text i h (rules-refused z f) = rules-refused z f
+
+with-line : (text : List ℕ) (i : ℕ) (r : Rules) {l : RuleLine} → Stands text (r .place) → r .place .line ≡ 5 + i → Clear text (r .place .line)
+    → RuleJudged text (r .place .line) (drop (r .place .at) text) l → RulesJudged text (suc i) (ruled i r l)
+unfolding ruled
+with-line text i r st at clear (rule-refused {number} f least some) = rules-refused (λ z. omega arith) (first-on text number (r .place .line) clear f least)
+with-line text i r st at clear (rule-passed none) =
+    let next : r .place .line + 1 ≡ 5 + suc i = omega arith in
+    rules-passed refl (stands-next st) next (subst (Clear text) next (clear-more text (r .place .line) clear none))
+
+module _ (text : List ℕ) (n R : ℕ) (isN : IsN text n) (isR : IsR text R) (p : LineStart) (st : Stands text p) (five : p .line ≡ 5) (clear : Clear text 5) where
+  few : n ≤ 7
+  few = isN .range .atMost
+
+  -- each rule line that was read has the name that is found for it
+  named-line : (i : ℕ) (r : Rules) → i ≤ R → Ruled text n (p .at) i r → (j : ℕ) → j < i → (e : List ℕ) × HasName text (5 + j) (nameOf text (r .names) (r .steps) j) e
+  unfolding flatMap
+  named-line i r b u j h =
+      let rs : List Rule = u .rules in
+      let k : j < length rs = omega (arith, u .count) in
+      let rule : Rule = ruleAt rs j in
+      let others : List ℕ = flatMap writtenRule (drop (suc j) rs) in
+      let rest : List ℕ = drop (r .place .at) text in
+      let w = rule-line-is n few rule (u .legal .each j k) (others ++ rest) in
+      let start : afterLines 4 text ≡ drop (p .at) text = ap (λ x. afterLines x text) (omega arith) ∙ st .begins in
+      let before : 5 + j - 1 ≡ 4 + j = omega arith in (
+        written (rule .step),
+        record {
+          rule = record { R = R; count = isR; least = omega arith; most = omega arith };
+          proper = rw (u .upto .located j k .name-is) (record { size = u .legal .each j k .nameLength; bytes = u .legal .each j k .nameBytes });
+          value = rw (u .upto .located j k .name-is) (record {
+            rest = others ++ rest;
+            stands =
+                ap (λ x. afterLines x text) before
+                ∙ lines-add 4 j text
+                ∙ ap (afterLines j) (start ∙ u .upto .lines)
+                ∙ after-rules n few rs (u .legal .each) rest j (omega arith)
+                ∙ ap (λ x. flatMap writtenRule x ++ rest) (drop-cons rs j _ k)
+                ∙ append-assoc (writtenRule rule) others rest
+                ∙ w .0;
+            unbroken = in-line-unbroken _ (w .1);
+          });
+        },
+      )
+
+  names-told : (i : ℕ) (r : Rules) → i ≤ R → Ruled text n (p .at) i r → TellsNames text (5 + i) (isTaken text (r .names) (r .steps) i)
+  names-told i r b u = record {
+    taken-there = λ name t.
+        let w = is-taken text (r .names) (r .steps) name i t in
+        let m = named-line i r b u (w .0) (w .1) in
+        (5 + w .0, omega (arith, w .1), (m .0, subst (λ x. HasName text (5 + w .0) x (m .0)) (w .2) (m .1)));
+    free-there = λ name t j d h a.
+        let l : 5 ≤ j = a .rule .least in
+        let k : j - 5 < i = omega arith in
+        let e : j ≡ 5 + (j - 5) = omega arith in
+        taken-back text (r .names) (r .steps) name i t (j - 5) k (one-name (named-line i r b u (j - 5) k .1) (subst (λ x. HasName text x name d) e a));
+  }
+
+  next-judged : (i : ℕ) → i < R → (r : Rules) → Ruled text n (p .at) i r → RulesJudged text i r
+      → RulesJudged text (suc i) (ruled i r (ruleLine n (isTaken text (r .names) (r .steps) i) (r .place .at) (drop (r .place .at) text)))
+  next-judged i b r u (rules-refused z f) = absurd (z (u .upto .number))
+  next-judged i b r u (rules-passed z s l c) =
+      let rule : IsRuleLine text (r .place .line) = record { R = R; count = isR; least = omega arith; most = omega arith } in
+      let taken : List ℕ → Bool = isTaken text (r .names) (r .steps) i in
+      with-line text i r s l (subst (Clear text) (sym l) c)
+      (rule-judged text (r .place .line) (drop (r .place .at) text) (s .begins) n isN rule taken
+      (subst (λ k. TellsNames text k taken) (sym l) (names-told i r (omega arith) u)) (r .place .at))
+
+  rules-judged : (i : ℕ) → i ≤ R → RulesJudged text i (rulesRead text n p i)
+  unfolding rulesRead nextRule noRules
+  rules-judged zero b = rules-passed refl st five clear
+  rules-judged (suc i) b =
+      let r = rulesRead text n p i in
+      let before = rules-judged i (omega arith) in
+      by-test {A = Rules} (RulesJudged text (suc i)) (eqb (r .number) 0)
+      (λ e. next-judged i b r (rules-back text n p few i (omega (arith, isR .range .atMost)) (eqb-true (r .number) 0 e)) before)
+      (λ e. still-refused text i (eqb-false (r .number) 0 e) before)
+
+-- ---- the whole text
+
+finished-right : (text : List ℕ) (vars R init prop : ℕ) (r : Rules) → IsR text R → RulesJudged text R r → RightOutcome text (finished text vars R init prop r .outcome)
+unfolding finished refusedReading Clear
+finished-right text vars R init prop r isR (rules-refused z f) =
+    by-test {A = Reading} (λ x. RightOutcome text (x .outcome)) (eqb (r .number) 0) (λ e. absurd (z (eqb-true (r .number) 0 e))) (λ _. first-fits f)
+finished-right text vars R init prop r isR (rules-passed z st l clear) =
+    let line : R + 5 ≡ r .place .line = omega arith in
+    let before : R + 4 ≡ r .place .line - 1 = omega arith in
+    let rest : afterLines (R + 4) text ≡ drop (r .place .at) text = ap (λ n. afterLines n text) before ∙ st .begins in
+    by-test {A = Reading} (λ x. RightOutcome text (x .outcome)) (eqb (r .number) 0)
+    (λ _.
+    by-test {A = Reading} (λ x. RightOutcome text (x .outcome)) (ltb (r .place .at) (length text))
+    (λ b.
+    let some : afterLines (R + 4) text ≢ [] = λ q. omega (arith, ltb-true (r .place .at) (length text) b, length-drop (r .place .at) text, ap length (sym rest ∙ q)) in
+    first-fits
+    (first-on text 9 (r .place .line) (λ m k h. clear m k (omega arith)) (subst (FitsAt text 9) line (bytes-follow isR some))
+    (λ m h f. omega (arith, fits-behind isR f (omega arith) .0))))
+    (λ b.
+    let empty : afterLines (R + 4) text ≡ [] = rest ∙ drop-of-length-le text (ltb-false (r .place .at) (length text) b) in
+    none-fits (λ m k f. go m k f empty (decLt k (R + 5)))))
+    (λ e. absurd (eqb-false (r .number) 0 e z))
+  where
+    go : (m k : ℕ) → FitsAt text m k → afterLines (R + 4) text ≡ [] → Dec (k < R + 5) → ⊥
+    go m k f empty (yes b) = clear m k (omega arith) f
+    go m k f empty (no b) = fits-behind isR f (omega arith) .1 empty
+
+-- the reading of any text has the right outcome
+pub right-outcome : (text : List ℕ) → RightOutcome text (readModel text .outcome)
+unfolding readModel behindLine afterLines
+right-outcome text =
+    let s₁ : Stands text textStart = record { least = omega arith; begins = refl } in
+    following-right text textStart _ _ s₁ (clear-start text) (count-judged text 1 text refl varsKey 7 vars-line) λ vars b₁ isN s₂ c₂.
+    following-right text (place₂ b₁) _ _ s₂ c₂ (count-judged text 2 (drop (place₂ b₁ .at) text) (s₂ .begins) rulesKey 16 rules-line) λ R b₂ isR s₃ c₃.
+    following-right text (place₃ b₁ b₂) _ _ s₃ c₃ (state-judged text 3 (drop (place₃ b₁ b₂ .at) text) (s₃ .begins) vars isN initKey init-line) λ init b₃ _ s₄ c₄.
+    following-right text (place₄ b₁ b₂ b₃) _ _ s₄ c₄ (state-judged text 4 (drop (place₄ b₁ b₂ b₃ .at) text) (s₄ .begins) vars isN propKey prop-line) λ prop b₄ _ s₅ c₅.
+    finished-right text vars R _ _ _ isR (rules-judged text vars R isN isR (place₅ b₁ b₂ b₃ b₄) s₅ refl c₅ R (omega arith))

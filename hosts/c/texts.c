@@ -1,0 +1,162 @@
+/*
+ * texts COUNT: tests of what the header itself reads: how many rules an accepted text has, its full set and the names of its rules. Random models are
+ * written here, so what is expected is known, and the library is asked whether it sees as many rules. Each text stands in a block of its own
+ * length, so that valgrind sees a byte too many; cut-off and damaged texts must do no harm.
+ */
+#include <stdio.h>
+#include <stdlib.h>
+#include <string.h>
+
+#include "codremif.h"
+#include "models.h"
+
+static int failures;
+
+static void check(int good, const char *what)
+{
+    printf("%s %s\n", good ? "ok" : "FAILED", what);
+    failures += !good;
+}
+
+/* A number below a bound; the same ones in each run. */
+static unsigned below(unsigned bound)
+{
+    static uint64_t state = 20261116;
+    state = state * 6364136223846793005u + 1442695040888963407u;
+    return (unsigned)(state >> 33) % bound;
+}
+
+/* A name that no rule before it has, of 1 to 8 bytes. Names of one byte, and names that begin others, come up often. */
+static void random_name(char names[][CODREMIF_NAME_BYTES + 1], unsigned rule)
+{
+    char *name = names[rule];
+    for (;;) {
+        unsigned length = 1 + below(CODREMIF_NAME_BYTES), taken = 0;
+        for (unsigned i = 0; i < length; i++)
+            name[i] = "rule01xz"[below(8)];
+        name[length] = '\0';
+        for (unsigned earlier = 0; earlier < rule; earlier++)
+            taken = taken || strcmp(names[earlier], name) == 0;
+        if (!taken)
+            return;
+    }
+}
+
+static unsigned random_model(struct model *model, char names[][CODREMIF_NAME_BYTES + 1])
+{
+    static const char *const expressions[] = {"1", "0", "a", "!A", ">Aa", "=Aa", "&A!a", "|!A!!a", "!!!!=!A!a"};
+    unsigned rules = 1 + below(CODREMIF_RULES);
+    model_begin(model, 1 + below(7), rules, below(2) ? "!a" : "1", below(2) ? "!a" : "|a!a");
+    for (unsigned rule = 0; rule < rules; rule++) {
+        random_name(names, rule);
+        model_named_rule(model, names[rule], expressions[below(sizeof expressions / sizeof expressions[0])]);
+    }
+    return rules;
+}
+
+static uint8_t *copy(const char *bytes, size_t length)
+{
+    uint8_t *text = malloc(length == 0 ? 1 : length);
+    if (text == NULL)
+        abort();
+    memcpy(text, bytes, length);
+    return text;
+}
+
+static int has_names(const uint8_t *text, size_t text_len, char names[][CODREMIF_NAME_BYTES + 1], unsigned rules)
+{
+    int good = 1;
+    for (unsigned rule = 0; rule < rules; rule++) {
+        size_t length;
+        const char *name = codremif_rule_name(text, text_len, rule, &length);
+        good = good && name != NULL && length == strlen(names[rule]) && memcmp(name, names[rule], length) == 0;
+    }
+    for (unsigned past = rules; past < rules + 20; past++) {
+        size_t length = 1;
+        good = good && codremif_rule_name(text, text_len, past, &length) == NULL && length == 0;
+    }
+    return good;
+}
+
+/* Whether the full set is the library's: it is judged, and the next number is no set. */
+static int is_full_set(const uint8_t *text, size_t text_len, uint32_t set)
+{
+    uint8_t trace[CODREMIF_TRACE_BYTES];
+    return codremif_accepted(codremif_judge(text, text_len, set, trace, sizeof trace)) &&
+           codremif_number(codremif_judge(text, text_len, set + 1, trace, sizeof trace)) == CODREMIF_NO_SUCH_SET;
+}
+
+static void test_random_models(unsigned count)
+{
+    int accepted = 1, rules_agree = 1, sets_agree = 1, names_agree = 1, cores_agree = 1, seen[CODREMIF_RULES + 1] = {0};
+    unsigned with_core = 0;
+    for (unsigned i = 0; i < count; i++) {
+        struct model model;
+        char names[CODREMIF_RULES][CODREMIF_NAME_BYTES + 1];
+        uint8_t sets[CODREMIF_LIST_BYTES], trace[CODREMIF_TRACE_BYTES];
+        unsigned rules = random_model(&model, names);
+        uint8_t *text = copy(model.text, model.length);
+        uint32_t full = codremif_full_set(text, model.length);
+        uint64_t cores = codremif_cores(text, model.length, sets, sizeof sets);
+        int holds = codremif_holds(codremif_judge(text, model.length, full, trace, sizeof trace));
+        accepted = accepted && codremif_accepted(codremif_must(text, model.length));
+        rules_agree = rules_agree && codremif_rules(text, model.length) == rules;
+        sets_agree = sets_agree && is_full_set(text, model.length, full);
+        names_agree = names_agree && has_names(text, model.length, names, rules);
+        cores_agree = cores_agree && codremif_accepted(cores) && (codremif_count(cores) > 0) == holds;
+        with_core += codremif_count(cores) > 0;
+        seen[rules] = 1;
+        free(text);
+    }
+    for (unsigned rules = 1; rules <= CODREMIF_RULES; rules++)
+        accepted = accepted && seen[rules];
+    check(accepted, "random models of 1 to 16 rules are accepted");
+    check(rules_agree, "random models: codremif_rules is the number of rules");
+    check(sets_agree, "random models: codremif_full_set is the last set that the library judges");
+    check(names_agree, "random models: codremif_rule_name gives each name, and NULL past the last");
+    check(cores_agree && with_core > count / 10 && with_core < count - count / 10,
+          "random models: the property holds exactly when there is a core");
+}
+
+/* Of a text that is not accepted nothing is promised but that nothing outside it is read. */
+static void test_other_texts(void)
+{
+    static const char tremor[] = "vars=3\nrules=3\ninit=!c\nprop=>c&ab\nrule=ra:>CA\nrule=rb:>CB\nrule=vote:>C&AB\n";
+    int good = 1;
+    size_t length;
+    for (size_t cut = 0; cut < sizeof tremor; cut++) {
+        uint8_t *text = copy(tremor, cut);
+        for (unsigned rule = 0; rule < 5; rule++) {
+            const char *name = codremif_rule_name(text, cut, rule, &length);
+            good = good && (name == NULL ? length == 0 : name >= (char *)text && name + length <= (char *)text + cut);
+        }
+        good = good && codremif_rules(text, cut) <= 3 && codremif_full_set(text, cut) <= 7;
+        free(text);
+    }
+    good = good && codremif_rules(NULL, 0) == 0 && codremif_full_set(NULL, 0) == 0;
+    good = good && codremif_rule_name(NULL, 0, 0, &length) == NULL && length == 0;
+    char many[600] = "";
+    for (int line = 0; line < 100; line++)
+        memcpy(many + 6 * line, "rule=\n", 6);
+    good = good && codremif_rules((const uint8_t *)many, sizeof many) == CODREMIF_RULES;
+    check(good, "of a text that is cut off, empty or no model, nothing outside it is read");
+}
+
+static void test_longest_names(void)
+{
+    struct model model;
+    size_t length;
+    model_pairs(&model);
+    const char *last = codremif_rule_name((const uint8_t *)model.text, model.length, 15, &length);
+    check(codremif_full_set((const uint8_t *)model.text, model.length) == 0xFFFF && length == CODREMIF_NAME_BYTES &&
+              memcmp(last, "rule0015", length) == 0,
+          "sixteen rules with names of eight bytes: the full set is 65,535, the last name is found");
+}
+
+int main(int argc, char **argv)
+{
+    test_random_models(argc == 2 ? (unsigned)strtoul(argv[1], NULL, 10) : 0);
+    test_other_texts();
+    test_longest_names();
+    return failures != 0;
+}

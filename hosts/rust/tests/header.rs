@@ -1,0 +1,67 @@
+//! The wrapper against include/codremif.h: the refusals have the same numbers, names and words, and the library is of the
+//! header's version.
+
+#![deny(warnings)]
+
+use std::path::Path;
+
+use codremif_host::answer::Reason;
+
+fn header() -> String {
+    let path = Path::new(env!("CARGO_MANIFEST_DIR")).join("../../include/codremif.h");
+    std::fs::read_to_string(&path).unwrap_or_else(|error| panic!("{}: {error}", path.display()))
+}
+
+/// `LINE_DUE` for `LineDue`.
+fn c_name(reason: Reason) -> String {
+    let mut name = String::new();
+    for letter in format!("{reason:?}").chars() {
+        if letter.is_uppercase() && !name.is_empty() {
+            name.push('_');
+        }
+        name.push(letter.to_ascii_uppercase());
+    }
+    name
+}
+
+/// The names and numbers of the enum.
+fn numbers(header: &str) -> Vec<(String, u8)> {
+    let enumeration = between(header, "enum codremif_refusal {", "};");
+    let lines = enumeration.lines().filter_map(|line| line.trim().strip_prefix("CODREMIF_"));
+    lines
+        .map(|line| {
+            let (name, number) = line.split_once(" = ").expect("a name and a number");
+            (name.to_string(), number.trim_end_matches(',').parse().expect("a number"))
+        })
+        .collect()
+}
+
+/// The words of a name: the strings of its case, put together.
+fn words(header: &str, name: &str) -> String {
+    let returned = between(header, &format!("case CODREMIF_{name}: return"), ";\n");
+    returned.split('"').skip(1).step_by(2).collect()
+}
+
+fn between<'text>(text: &'text str, start: &str, end: &str) -> &'text str {
+    let (_, rest) = text.split_once(start).unwrap_or_else(|| panic!("the header has no {start}"));
+    rest.split_once(end).expect("an end").0
+}
+
+#[test]
+fn refusals() {
+    let header = header();
+    let mut expected = vec![("ACCEPTED".to_string(), 0)];
+    expected.extend(Reason::ALL.map(|reason| (c_name(reason), reason.number())));
+    assert_eq!(numbers(&header), expected, "header left, wrapper right");
+    for reason in Reason::ALL {
+        assert_eq!(words(&header, &c_name(reason)), reason.words(), "header left, wrapper right");
+    }
+}
+
+#[cfg(has_version)]
+#[test]
+fn version() {
+    let header = header();
+    let stated = between(&header, "#define CODREMIF_VERSION ", "\n");
+    assert_eq!(codremif_host::calls::version().to_string(), stated, "library left, header right");
+}
