@@ -30,10 +30,13 @@ by-none : (key s : List ℕ) (t : Bool) → isLine key s ≡ t → cond t (At (l
 by-none key s true q h = let z : _≡_ {A = ℕ} 0 1 = cc in absurd (omega arith)
 by-none key s false q h = q
 
+pub no-end : (key s : List ℕ) {r : End} → r ≡ endOf key s → r ≡ Missing → isLine key s ≡ false
+unfolding endOf
+no-end key s said told = by-none key s (isLine key s) refl (sym said ∙ told)
+
 -- number 1, whatever the line would say
 pub no-line : {A : Type 0} (fault otherwise : A) (key s : List ℕ) {r : End} → r ≡ endOf key s → r ≡ Missing → fault ≡ cond (isLine key s) otherwise fault
-unfolding endOf
-no-line fault otherwise key s said told = rw (by-none key s (isLine key s) refl (sym said ∙ told))
+no-line fault otherwise key s said told = rw (no-end key s said told)
 
 -- an expression that a number refuses
 pub faulted : {A : Type 0} (fault : ℕ → A) (number : ℕ) (read : A) → number ≢ 0 → unlessFault fault number read ≡ fault number

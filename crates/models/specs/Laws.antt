@@ -1,4 +1,5 @@
 -- What is proved of the definitions of this crate.
+pub mod Finished
 pub mod Ranges
 pub mod Rules
 pub mod Written

@@ -88,7 +88,8 @@ module _ {A : Type 0} (refuse : ℕ → ℕ → A) (a : A) where
 
 -- ---- the first number that fits
 
--- The outcome of judging set S: refused by the text's number, by 10, by 11, or accepted, the first of these that fits.
+-- The outcome of judging set S: refused by the text's number, by 10, by 11, or accepted, the first of these that fits. Demand 1 rests on these
+-- records for the order of the numbers.
 pub record JudgeNumbers (text : List ℕ) (S : ℕ) (lent : List ℕ) (o : Outcome) : Type 0 where
   pub byText : (number line : ℕ) → textOutcome text ≡ Refused number line → o ≡ Refused number line
   pub bySet : textOutcome text ≡ Accepted → 2 ^ rulesIn text ≤ S → o ≡ Refused 10 0

@@ -1,17 +1,14 @@
 -- Demand 1 is true of every call: it is refused by the first fitting number and its line, every other part of the answer is then 0, and no lent
 -- byte changes; where no number fits it is accepted. From the theorem about reading (`Rattle.models.specs.Refused`) and the laws of the answers.
 use Prim.Native.Nat.{ℕ, _*_, _^_, _≤_, _<_}
-use mathlib.Core.Path.{_≡_, refl, sym, ap, ap₂, _∙_, subst₂}
+use mathlib.Core.Path.{_≡_, refl, sym, ap, ap₂, _∙_, subst, subst₂}
 use mathlib.Core.Logic.{_↔_, _⊎_, inl, inr}
 use mathlib.Core.Bool.{Bool, true, false}
 use mathlib.Core.List.{List, []}
 use native.Mathlib.Omega.{arith}
 use native.Mathlib.Decide.{decLt}
-use borrow.Author.Tests.{leb-true, leb-false, ltb-true, ltb-false}
-use lib.Dec.{leb, ltb}
 use lib.ListN.{length}
 use Rattle.sets.specs.Lists.{bytesOf}
-use Rattle.sets.specs.Laws.Lists.{length-bytesOf}
 use Rattle.models.specs.declared.model.Outcome.{Outcome}
 use Rattle.models.specs.declared.model.Outcome.the-variants.{Accepted, Refused}
 use Rattle.models.specs.Refusals.{FitsAt, line-missing, count-wrong, name-improper, name-taken, length-wrong, byte-other, letter-beyond, letter-capital, not-one, bytes-follow, First}
@@ -23,10 +20,10 @@ use Rattle.cores.specs.declared.which.WhichList.{WhichList}
 use Rattle.codremif.specs.declared.answers.JudgeAnswer.the-variants.{Refused as JudgeRefused}
 use Rattle.codremif.specs.declared.answers.ListAnswer.the-variants.{Refused as ListRefused, Count}
 use Rattle.codremif.specs.declared.answers.MustAnswer.the-variants.{Refused as MustRefused, Set}
-use Rattle.codremif.specs.Answers.{rulesIn, systemIn, traceIn, listIn, mustIn, _orElse_, refusedIf, textOutcome, judgeOutcome, listOutcome, given, after, judgeAnswer, judgeBytes, listAnswer, listBytes, mustAnswer}
+use Rattle.codremif.specs.Answers.{rulesIn, systemIn, traceIn, listIn, mustIn, textOutcome, judgeOutcome, listOutcome, given, after, judgeAnswer, judgeBytes, listAnswer, listBytes, mustAnswer}
 use Rattle.codremif.specs.Packing.{Parts, refused, judgeParts, listParts, mustParts, packed}
 use Rattle.codremif.specs.Demand1.{JudgeFits, judge-text, set-beyond, trace-longer, ListFits, list-text, list-longer, FirstOf, Refusals, Demand1, HostRefusals, HostDemand1}
-use Rattle.codremif.specs.Laws.Answers.{given-refused, given-accepted, refusal-given, not-refused}
+use Rattle.codremif.specs.Laws.Answers.{JudgeNumbers, ListNumbers, judge-numbers, list-numbers, given-refused, given-accepted, refusal-given, not-refused}
 use Rattle.codremif.specs.Laws.Host.{HostReads, judge-reads, list-reads, must-reads}
 
 -- ---- the numbers of a text are 1 to 9
@@ -118,7 +115,14 @@ module _ (text : List ℕ) (S : ℕ) (lent : List ℕ) where
       go true e = absurd (omega (arith, ap length (judged M .held e)))
       go false e = judged M .broken e
 
-  module _ (no-text : (number line : ℕ) → ¬ FitsAt text number line) where
+  -- which number it is, by cases: these say in which order 1 to 9, 10 and 11 are tried
+  numbers : JudgeNumbers text S lent (judgeOutcome text S lent)
+  numbers = judge-numbers text S lent
+
+  rightly : {o : Outcome} → judgeOutcome text S lent ≡ o → Right (JudgeFits text S lent) o → Right (JudgeFits text S lent) (judgeOutcome text S lent)
+  rightly e r = subst (Right (JudgeFits text S lent)) (sym e) r
+
+  module _ (accepted : textOutcome text ≡ Accepted) (no-text : (number line : ℕ) → ¬ FitsAt text number line) where
     from-ten : (n l : ℕ) → JudgeFits text S lent n l → 10 ≤ n
     from-ten n l (judge-text f) = absurd (no-text n l f)
     from-ten n l (set-beyond h) = omega arith
@@ -135,27 +139,25 @@ module _ (text : List ℕ) (S : ℕ) (lent : List ℕ) where
     none-left h k n l (set-beyond b) = omega arith
     none-left h k n l (trace-longer {run = run} t b) = omega (arith, ap length (judged M .only run t))
 
-    by-length : S < 2 ^ rulesIn text → (b : Bool) → ltb (length lent) (length (traceIn text S)) ≡ b → Right (JudgeFits text S lent) (refusedIf b 11)
-    unfolding refusedIf M
-    by-length h true e =
-        let short = ltb-true (length lent) (length (traceIn text S)) e in
-        fits-first (least-first (JudgeFits text S lent) (omega arith) (trace-longer (its-trace short) short) (from-eleven h))
-    by-length h false e = fits-none (none-left h (ltb-false (length lent) (length (traceIn text S)) e))
+    by-length : S < 2 ^ rulesIn text → Dec (length lent < length (traceIn text S)) → Right (JudgeFits text S lent) (judgeOutcome text S lent)
+    unfolding M
+    by-length h (yes short) =
+        rightly (numbers .byLength accepted h short) (fits-first (least-first (JudgeFits text S lent) (omega arith) (trace-longer (its-trace short) short) (from-eleven h)))
+    by-length h (no b) = rightly (numbers .byNone accepted h (omega arith)) (fits-none (none-left h (omega arith)))
 
-    by-set : (b : Bool) → leb (2 ^ rulesIn text) S ≡ b
-        → Right (JudgeFits text S lent) (refusedIf b 10 orElse refusedIf (ltb (length lent) (length (traceIn text S))) 11)
-    unfolding refusedIf _orElse_
-    by-set true e = fits-first (least-first (JudgeFits text S lent) (omega arith) (set-beyond (leb-true (2 ^ rulesIn text) S e)) from-ten)
-    by-set false e = by-length (leb-false (2 ^ rulesIn text) S e) (ltb (length lent) (length (traceIn text S))) refl
+    by-set : Dec (S < 2 ^ rulesIn text) → Right (JudgeFits text S lent) (judgeOutcome text S lent)
+    by-set (yes h) = by-length h (decLt (length lent) (length (traceIn text S)))
+    by-set (no b) =
+        let h : 2 ^ rulesIn text ≤ S = omega arith in
+        rightly (numbers .bySet accepted h) (fits-first (least-first (JudgeFits text S lent) (omega arith) (set-beyond h) from-ten))
 
   judge-right : Right (JudgeFits text S lent) (judgeOutcome text S lent)
-  unfolding judgeOutcome textOutcome _orElse_
-  judge-right = go (right-outcome text)
+  unfolding textOutcome
+  judge-right = go refl (right-outcome text)
     where
-      go : {o : Outcome} → RightOutcome text o
-          → Right (JudgeFits text S lent) (o orElse refusedIf (leb (2 ^ rulesIn text) S) 10 orElse refusedIf (ltb (length lent) (length (traceIn text S))) 11)
-      go (none-fits n) = by-set n (leb (2 ^ rulesIn text) S) refl
-      go (first-fits f) = fits-first (text-first (JudgeFits text S lent) (λ n l g. judge-text g) judge-out f)
+      go : {o : Outcome} → textOutcome text ≡ o → RightOutcome text o → Right (JudgeFits text S lent) (judgeOutcome text S lent)
+      go e (none-fits n) = by-set e n (decLt S (2 ^ rulesIn text))
+      go e (first-fits f) = rightly (numbers .byText _ _ e) (fits-first (text-first (JudgeFits text S lent) (λ n l g. judge-text g) judge-out f))
 
 -- ---- listing sets
 
@@ -168,7 +170,13 @@ module _ (which : WhichList) (text lent : List ℕ) where
   list-out number line h (list-text f) = f
   list-out number line h (list-longer l) = absurd (omega arith)
 
-  module _ (no-text : (number line : ℕ) → ¬ FitsAt text number line) where
+  numbers-listed : ListNumbers text (listIn which text) lent (listOutcome which text lent)
+  numbers-listed = list-numbers which text lent
+
+  listed-rightly : {o : Outcome} → listOutcome which text lent ≡ o → Right (ListFits which text lent) o → Right (ListFits which text lent) (listOutcome which text lent)
+  listed-rightly e r = subst (Right (ListFits which text lent)) (sym e) r
+
+  module _ (accepted : textOutcome text ≡ Accepted) (no-text : (number line : ℕ) → ¬ FitsAt text number line) where
     list-eleven : (n l : ℕ) → ListFits which text lent n l → 11 ≤ n
     list-eleven n l (list-text f) = absurd (no-text n l f)
     list-eleven n l (list-longer h) = omega arith
@@ -177,23 +185,18 @@ module _ (which : WhichList) (text lent : List ℕ) where
     list-none h n l (list-text f) = no-text n l f
     list-none h n l (list-longer k) = omega arith
 
-    list-by-length : (b : Bool) → ltb (length lent) (length (bytesOf (listIn which text))) ≡ b → Right (ListFits which text lent) (refusedIf b 11)
-    unfolding refusedIf
-    list-by-length true e =
-        fits-first
-        (least-first (ListFits which text lent) (omega arith)
-        (list-longer (omega (arith, ltb-true (length lent) (length (bytesOf (listIn which text))) e, length-bytesOf (listIn which text)))) list-eleven)
-    list-by-length false e =
-        fits-none (list-none (omega (arith, ltb-false (length lent) (length (bytesOf (listIn which text))) e, length-bytesOf (listIn which text))))
+    list-by-length : Dec (length lent < 2 * length (listIn which text)) → Right (ListFits which text lent) (listOutcome which text lent)
+    list-by-length (yes h) =
+        listed-rightly (numbers-listed .byLength accepted h) (fits-first (least-first (ListFits which text lent) (omega arith) (list-longer h) list-eleven))
+    list-by-length (no b) = listed-rightly (numbers-listed .byNone accepted (omega arith)) (fits-none (list-none (omega arith)))
 
   list-right : Right (ListFits which text lent) (listOutcome which text lent)
-  unfolding listOutcome textOutcome _orElse_
-  list-right = go (right-outcome text)
+  unfolding textOutcome
+  list-right = go refl (right-outcome text)
     where
-      go : {o : Outcome} → RightOutcome text o
-          → Right (ListFits which text lent) (o orElse refusedIf (ltb (length lent) (length (bytesOf (listIn which text)))) 11)
-      go (none-fits n) = list-by-length n (ltb (length lent) (length (bytesOf (listIn which text)))) refl
-      go (first-fits f) = fits-first (text-first (ListFits which text lent) (λ n l g. list-text g) list-out f)
+      go : {o : Outcome} → textOutcome text ≡ o → RightOutcome text o → Right (ListFits which text lent) (listOutcome which text lent)
+      go e (none-fits n) = list-by-length e n (decLt (length lent) (2 * length (listIn which text)))
+      go e (first-fits f) = listed-rightly (numbers-listed .byText _ _ e) (fits-first (text-first (ListFits which text lent) (λ n l g. list-text g) list-out f))
 
 -- ---- giving MUST
 

@@ -1,8 +1,8 @@
 -- An expression is refused by no number exactly when it is the written form of a legal expression. From the definitions of `Lines` and `Written`,
 -- by induction on the expression, and by the laws of bytes and of reading.
-use Prim.Native.Nat.{ℕ, suc, _+_, _≤_}
+use Prim.Native.Nat.{ℕ, _+_, _≤_}
 use mathlib.Core.Path.{_≡_, refl, sym, ap, ap₂, _∙_}
-use mathlib.Core.Bool.{Bool, true, false, cond, not, _&&_, _||_, Bool·beq, and-eq-true-iff, false≢true}
+use mathlib.Core.Bool.{Bool, true, false, not, _&&_, _||_, Bool·beq, and-eq-true-iff, false≢true}
 use mathlib.Mathlib.Data.Bool.Basic.{eq-true-of-not-eq-false}
 use mathlib.Core.List.{List, [], _∷_, _++_, append-nil}
 use mathlib.Core.Option.{Option, none, some}
@@ -19,6 +19,7 @@ use Rattle.lines.specs.declared.classes.Class.the-variants.{InLine, InEx
 use Rattle.lines.specs.Bytes.{isToken, allowed, belongs}
 use Rattle.lines.specs.Lines.{all, isSize, isOne, faultOf}
 use Rattle.lines.specs.Written.{Small, LegalExpr}
+use Rattle.lines.specs.Laws.Numbers.{expression-numbers, by-expression}
 use Rattle.lines.specs.Laws.Bytes.{all-nil, all-append, all-parts, all-more, all-in-line}
 
 -- ---- the bytes of an expression
@@ -115,27 +116,27 @@ one-back s q = go (readExpr s) refl q
         let empty : rest ≡ [] = drop-of-length-le rest {i = 0} (omega (arith, eqb-true (size e) (length s) h, ap length (r .1 .1), length-append (written e) rest)) in
         (e, r .0, r .1 .1 ∙ ap (λ x. written e ++ x) empty ∙ append-nil (written e))
 
-unrefused : (t : Bool) (x number : ℕ) → cond t x (suc number) ≡ 0 → (t ≡ true) × (x ≡ 0)
-unrefused true x number q = (refl, q)
-unrefused false x number q = absurd (omega arith)
-
 pub fault-there : (n : ℕ) (capitals : Bool) (e : Expr) → n ≤ 7 → LegalExpr n capitals e → faultOf n capitals (written e) ≡ 0
-unfolding faultOf size
+unfolding size
 fault-there n capitals e h l =
     let k : Letters 7 e = letters-more n 7 h e (l .letters) in
-    rw (le-leb 1 (length (written e)) (size-pos e), le-leb (length (written e)) 64 (l .bytes), in-expression e k, allowed-there n capitals e k (l .letters, l .small), one-there e k)
+    expression-numbers n capitals (written e) .byNone
+    (and-eq-true-iff _ _ .1 (le-leb 1 (length (written e)) (size-pos e), le-leb (length (written e)) 64 (l .bytes)))
+    (in-expression e k) (allowed-there n capitals e k (l .letters, l .small)) (one-there e k)
 
 pub fault-back : (n : ℕ) (capitals : Bool) (s : List ℕ) → faultOf n capitals s ≡ 0 → (e : Expr) × LegalExpr n capitals e × (s ≡ written e)
-unfolding faultOf size
-fault-back n capitals s q =
-    let a = unrefused (leb 1 (length s) && leb (length s) 64) _ 4 q in
-    let b = unrefused (all InExpression s) _ 5 (a .1) in
-    let c = unrefused (all (Allowed n capitals) s) _ 6 (b .1) in
-    let d = unrefused (isOne s) _ 7 (c .1) in
-    let o = one-back s (d .0) in
-    let f = allowed-back n capitals (o .0) (o .1) (ap (all (Allowed n capitals)) (sym (o .2)) ∙ c .0) in
-    let most = leb-true (length s) 64 (and-eq-true-iff (leb 1 (length s)) (leb (length s) 64) .0 (a .0) .1) in
-    (o .0, record { bytes = omega (arith, ap length (o .2)); letters = f .0; small = f .1 }, o .2)
+unfolding size
+fault-back n capitals s =
+    by-expression n capitals s (λ x. x ≡ 0 → (e : Expr) × LegalExpr n capitals e × (s ≡ written e))
+    (λ _ q. absurd (omega arith))
+    (λ _ _ q. absurd (omega arith))
+    (λ _ _ _ q. absurd (omega arith))
+    (λ _ _ _ _ q. absurd (omega arith))
+    (λ a _ c d _.
+    let o = one-back s d in
+    let f = allowed-back n capitals (o .0) (o .1) (ap (all (Allowed n capitals)) (sym (o .2)) ∙ c) in
+    let most = leb-true (length s) 64 (and-eq-true-iff (leb 1 (length s)) (leb (length s) 64) .0 a .1) in
+    (o .0, record { bytes = omega (arith, ap length (o .2)); letters = f .0; small = f .1 }, o .2))
 
 -- it has no byte 10
 pub legal-in-line : (n : ℕ) (capitals : Bool) (e : Expr) → n ≤ 7 → LegalExpr n capitals e → all InLine (written e) ≡ true

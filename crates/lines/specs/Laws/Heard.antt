@@ -2,14 +2,14 @@
 -- From the definitions of `Lines`, by the tests that a line has passed.
 use Prim.Native.Nat.{ℕ, zero, suc, _+_, _≤_, _<_}
 use mathlib.Core.Path.{_≡_}
-use mathlib.Core.Bool.{Bool, true, false, _&&_, and-eq-true-iff}
+use mathlib.Core.Bool.{Bool, true, false, and-eq-true-iff}
 use mathlib.Core.List.{List}
 use native.Mathlib.Omega.{arith}
 use borrow.Author.Tests.{ltb-true}
-use lib.Dec.{leb, ltb}
+use lib.Dec.{ltb}
 use lib.ListN.{length, take, drop}
 use Rattle.sets.specs.Laws.Choice.{by-test}
-use Rattle.lines.specs.declared.classes.Class.the-variants.{InName, InExpression, Allowed}
+use Rattle.lines.specs.declared.classes.Class.the-variants.{InName}
 use Rattle.lines.specs.declared.line.Line.{Line}
 use Rattle.lines.specs.declared.line.Line.the-variants.{Fault, Read}
 use Rattle.lines.specs.declared.names.RuleLine.{RuleLine}
@@ -17,8 +17,9 @@ use Rattle.lines.specs.declared.names.RuleLine.the-variants.{RuleFault, 
 use Rattle.lines.specs.declared.names.RuleParts.{RuleParts}
 use Rattle.lines.specs.Bytes.{prefix, same}
 use Rattle.lines.specs.Decimal.{decimal}
-use Rattle.lines.specs.Lines.{lineLength, isLine, valueOf, says, unlessFault, ruleKey, countIn, counted, countLine, all, isOne, faultOf, stateLine, isNamed, partsAt, ruleLine}
+use Rattle.lines.specs.Lines.{lineLength, isLine, valueOf, says, unlessFault, ruleKey, countIn, counted, countLine, faultOf, stateLine, partsAt, ruleLine}
 use Rattle.lines.specs.Written.{Within}
+use Rattle.lines.specs.Laws.Numbers.{by-expression, by-rule}
 
 -- A line of the text s says v, at most `most`, and its bytes are within the text.
 pub record SaysWithin (s : List ℕ) (most v bytes : ℕ) : Type 0 where
@@ -72,12 +73,8 @@ count-heard key most s =
 -- ---- the lines with an expression
 
 faultOf-le : (n : ℕ) (capitals : Bool) (e : List ℕ) → faultOf n capitals e ≤ 8
-unfolding faultOf
 faultOf-le n capitals e =
-    by-test (λ x. x ≤ 8) (leb 1 (length e) && leb (length e) 64) (λ _.
-    by-test (λ x. x ≤ 8) (all InExpression e) (λ _.
-    by-test (λ x. x ≤ 8) (all (Allowed n capitals) e) (λ _.
-    by-test (λ x. x ≤ 8) (isOne e) (λ _. omega arith) (λ _. omega arith)) (λ _. omega arith)) (λ _. omega arith)) (λ _. omega arith)
+    by-expression n capitals e (λ x. x ≤ 8) (λ _. omega arith) (λ _ _. omega arith) (λ _ _ _. omega arith) (λ _ _ _ _. omega arith) (λ _ _ _ _. omega arith)
 
 unless-heard : (key s : List ℕ) (most number v : ℕ) → isLine key s ≡ true → number ≤ 8 → v ≤ most → Heard s most (unlessFault Fault number (says v s))
 unfolding unlessFault
@@ -110,14 +107,11 @@ rule-unless s zero parts l h = rule-said {bytes = lineLength s + 1} (bytes-withi
 rule-unless s (suc number) parts l h = rule-fault (suc number) (omega arith)
 
 pub rule-heard : (n : ℕ) (taken : List ℕ → Bool) (at : ℕ) (s : List ℕ) → RuleHeard s (ruleLine n taken at s)
-unfolding ruleLine
 rule-heard n taken at s =
     let v = valueOf ruleKey s in
     let k = prefix InName v in
-    let number = faultOf n true (drop (k + 1) v) in
-    by-test (RuleHeard s) (isLine ruleKey s) (λ l.
-    by-test (RuleHeard s) (isNamed v) (λ m.
-    by-test (RuleHeard s) (taken (take k v)) (λ _. rule-fault 4 (omega arith)) (λ _.
-    rule-unless s number (partsAt at k) l (faultOf-le n true (drop (k + 1) v))))
-    (λ _. rule-fault 3 (omega arith)))
+    by-rule n taken at s (RuleHeard s)
     (λ _. rule-fault 1 (omega arith))
+    (λ _ _. rule-fault 3 (omega arith))
+    (λ _ _ _. rule-fault 4 (omega arith))
+    (λ l _ _. rule-unless s (faultOf n true (drop (k + 1) v)) (partsAt at k) l (faultOf-le n true (drop (k + 1) v)))

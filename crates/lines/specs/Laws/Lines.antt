@@ -24,6 +24,7 @@ use Rattle.lines.specs.Lines.{varsKey, rulesKey, initKey, propKey, ruleK
 use Rattle.lines.specs.Written.{Rule, Within, LegalExpr, LegalRule, line, writtenRule}
 use Rattle.lines.specs.Laws.Bytes.{all-nil, all-append, all-more, all-in-line, prefix-all, prefix-seam, all-prefix, prefix-ends, same-true, same-false, same-is}
 use Rattle.lines.specs.Laws.Decimal.{decimal-apart}
+use Rattle.lines.specs.Laws.Numbers.{rule-numbers, by-rule}
 use Rattle.lines.specs.Laws.Expressions.{fault-there, fault-back, legal-in-line}
 
 -- A reader of lines accepts the written forms of the legal x, whatever follows, and no other text; `made` is its answer where it accepts.
@@ -40,13 +41,6 @@ module _ {A : Type 0} (t : Bool) (l f r : A) (apart : f ≡ r → ⊥) where
       go : (t : Bool) → cond t l f ≡ r → (t ≡ true) × (l ≡ r)
       go true q = (refl, q)
       go false q = absurd (apart q)
-
-  free : cond t f l ≡ r → (t ≡ false) × (l ≡ r)
-  free = go t
-    where
-      go : (t : Bool) → cond t f l ≡ r → (t ≡ false) × (l ≡ r)
-      go true q = absurd (apart q)
-      go false q = (refl, q)
 
 unfaulted-back : {A : Type 0} (fault : ℕ → A) (number : ℕ) (l r : A) → ((n : ℕ) → fault n ≡ r → ⊥) → unlessFault fault number l ≡ r → number ≡ 0
 unfolding unlessFault
@@ -280,18 +274,6 @@ named-back v h =
       text = split-at v k 0 within ∙ ap₂ (λ x m. take k v ++ x ∷ drop m v) colon (sym (add-one k));
     }
 
-pub rule-is : (n : ℕ) (taken : List ℕ → Bool) (at : ℕ) (s : List ℕ) → ruleLine n taken at s
-    ≡ cond (isLine ruleKey s)
-    (cond (isNamed (valueOf ruleKey s))
-    (cond (taken (take (prefix InName (valueOf ruleKey s)) (valueOf ruleKey s)))
-    (RuleFault 4)
-    (unlessFault RuleFault (faultOf n true (drop (prefix InName (valueOf ruleKey s) + 1) (valueOf ruleKey s)))
-    (RuleRead (partsAt at (prefix InName (valueOf ruleKey s))) (lineLength s + 1))))
-    (RuleFault 3))
-    (RuleFault 1)
-unfolding ruleLine
-rule-is n taken at s = refl
-
 pub rule-in-line : (n : ℕ) (r : Rule) → n ≤ 7 → LegalRule n r → all InLine (r .name ++ 58 ∷ written (r .step)) ≡ true
 unfolding belongs
 rule-in-line n r h l =
@@ -311,20 +293,23 @@ rule-reads n h taken at = record {
       let s = line ruleKey v ++ rest in
       let b = line-there ruleKey ruleKey-in-line v rest (rule-in-line n r h (l .0)) in
       let m = named-there (r .name) (written (r .step)) (l .0 .nameLength) (l .0 .nameBytes) in
-      rule-is n taken at s
-      ∙ rw (b .is, b .value-is, m .is, m .name-is, l .1, m .step-is, m .bytes)
+      let v-is : valueOf ruleKey s ≡ v = b .value-is in
+      rule-numbers n taken at s .byRest (b .is) (ap isNamed v-is ∙ m .is) (rw (v-is, m .name-is) (l .1))
+      ∙ rw (v-is, m .step-is, m .bytes)
       (unfaulted RuleFault (faultOf n true (written (r .step))) _ (fault-there n true (r .step) h (l .0 .step)) ∙ ap (RuleRead (partsAt at (length (r .name)))) (b .bytes));
-  back = λ s parts bytes q.
+  back = λ s parts bytes.
       let v = valueOf ruleKey s in
       let k = prefix InName v in
-      let a = passed (isLine ruleKey s) _ _ _ (no-rule-read parts bytes 1) (sym (rule-is n taken at s) ∙ q) in
-      let b = passed (isNamed v) _ _ _ (no-rule-read parts bytes 3) (a .1) in
-      let c = free (taken (take k v)) _ _ _ (no-rule-read parts bytes 4) (b .1) in
-      let e = fault-back n true (drop (k + 1) v) (unfaulted-back RuleFault (faultOf n true (drop (k + 1) v)) _ _ (no-rule-read parts bytes) (c .1)) in
-      let m = named-back v (b .0) in
-      let r = line-back ruleKey ruleKey-in-line s (a .0) in (
+      by-rule n taken at s (λ x. x ≡ RuleRead parts bytes → (r : Rule) × (LegalRule n r × (taken (r .name) ≡ false)) × ((rest : List ℕ) × (s ≡ writtenRule r ++ rest)))
+      (λ _ q. absurd (no-rule-read parts bytes 1 q))
+      (λ _ _ q. absurd (no-rule-read parts bytes 3 q))
+      (λ _ _ _ q. absurd (no-rule-read parts bytes 4 q))
+      (λ a b c q.
+      let e = fault-back n true (drop (k + 1) v) (unfaulted-back RuleFault (faultOf n true (drop (k + 1) v)) _ _ (no-rule-read parts bytes) q) in
+      let m = named-back v b in
+      let r = line-back ruleKey ruleKey-in-line s a in (
         record { name = take k v; step = e .0 },
-        (record { nameLength = m .length-is; nameBytes = all-prefix InName v; step = e .1 }, c .0),
+        (record { nameLength = m .length-is; nameBytes = all-prefix InName v; step = e .1 }, c),
         (r .0, r .1 ∙ ap (λ x. line ruleKey x ++ r .0) (m .text ∙ ap (λ x. take k v ++ 58 ∷ x) (e .2))),
-      );
+      ));
 }

@@ -24,7 +24,8 @@ use Rattle.lines.specs.Lines.{ruleKey, lineLength, isLine, valueOf, says, unles
 use Rattle.lines.specs.Written.{Within, line}
 use Rattle.lines.specs.Laws.Bytes.{all-append, prefix-seam, all-prefix}
 use Rattle.lines.specs.Laws.Decimal.{decimal-apart}
-use Rattle.lines.specs.Laws.Lines.{line-append, line-there, line-back, count-there, count-back, named-there, named-back, rule-is, ruleKey-in-line}
+use Rattle.lines.specs.Laws.Numbers.{by-rule}
+use Rattle.lines.specs.Laws.Lines.{line-append, line-there, line-back, count-there, count-back, named-there, named-back, ruleKey-in-line}
 use Rattle.models.specs.Refusals.{afterLine, afterLines, LineAt, HasValue, CountLine, vars-line, rules-line, StateLine, init-line, prop-line, GivesCount, IsN, IsR, IsRuleLine, count-due, state-due, rule-due, ProperName, HasName, Expression, of-state, of-rule, FitsAt, line-missing, count-wrong, name-improper, name-taken, length-wrong, byte-other, letter-beyond, letter-capital, not-one, bytes-follow}
 use Rattle.models.specs.Laws.Grounds.{unbroken-in-line, in-line-unbroken, Unfit, unfit-length, unfit-byte, unfit-letter, unfit-capital, unfit-form, unfit-late, Tried, tried-none, tried-some, expression-tried}
 
@@ -339,20 +340,17 @@ module _ (text : List ℕ) (k : ℕ) (s : List ℕ) (begins : afterLines (k - 1)
       pub rule-judged : (at : ℕ) → RuleJudged text k s (ruleLine n taken at s)
       unfolding unlessFault
       rule-judged at =
-          subst (RuleJudged text k s) (sym (rule-is n taken at s))
-          (by-test (RuleJudged text k s) (isLine ruleKey s) (λ l.
-          by-test (RuleJudged text k s) (isNamed (valueOf ruleKey s)) (λ h.
-          by-test (RuleJudged text k s) (taken (nameFound s))
-          (λ t.
-          let w = tells .taken-there (nameFound s) t in
-          rule-refused (name-taken (w .1) (w .2 .1) (name-found c l h)) (past-rule 4 (λ _. l) (λ _. h) (λ k. absurd (omega arith)) (λ m k u. unfit-late (omega arith) u k)) (omega arith))
-          (λ t. go l h t (expression-tried text n isN (λ m q. one-count q isN) true (expressionFound s))))
-          (λ h.
-          rule-refused (name-fails c l h)
-          (past-rule 3 (λ _. l) (λ k. absurd (omega arith)) (λ k. absurd (omega arith)) (λ m k u. unfit-late (omega arith) u k)) (omega arith)))
+          by-rule n taken at s (RuleJudged text k s)
           (λ l.
           rule-refused (line-missing (rule-due c) (no-value ruleKey ruleKey-in-line l))
-          (past-rule 1 (λ k. absurd (omega arith)) (λ k. absurd (omega arith)) (λ k. absurd (omega arith)) (λ m k u. unfit-late (omega arith) u k)) (omega arith)))
+          (past-rule 1 (λ k. absurd (omega arith)) (λ k. absurd (omega arith)) (λ k. absurd (omega arith)) (λ m k u. unfit-late (omega arith) u k)) (omega arith))
+          (λ l h.
+          rule-refused (name-fails c l h)
+          (past-rule 3 (λ _. l) (λ k. absurd (omega arith)) (λ k. absurd (omega arith)) (λ m k u. unfit-late (omega arith) u k)) (omega arith))
+          (λ l h t.
+          let w = tells .taken-there (nameFound s) t in
+          rule-refused (name-taken (w .1) (w .2 .1) (name-found c l h)) (past-rule 4 (λ _. l) (λ _. h) (λ k. absurd (omega arith)) (λ m k u. unfit-late (omega arith) u k)) (omega arith))
+          (λ l h t. go l h t (expression-tried text n isN (λ m q. one-count q isN) true (expressionFound s)))
         where
           go : isLine ruleKey s ≡ true → isNamed (valueOf ruleKey s) ≡ true → taken (nameFound s) ≡ false → {number : ℕ} → Tried (Unfit text true (expressionFound s)) number
               → RuleJudged text k s (unlessFault RuleFault number (RuleRead (partsAt at (prefix InName (valueOf ruleKey s))) (lineLength s + 1)))

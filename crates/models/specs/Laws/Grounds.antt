@@ -10,7 +10,6 @@ use borrow.Author.Tests.{eqb-true, le-leb, leb-true, le-ltb, ltb-false, not-fals
 use lib.Dec.{eqb, leb, ltb}
 use lib.ListN.{length, getD, drop, length-drop}
 use lib.Seq.{getD-drop}
-use Rattle.sets.specs.Laws.Choice.{by-test}
 use Rattle.sets.specs.Tabulated.{tabulate}
 use Rattle.sets.specs.Laws.Tabulated.{length-tabulate, getD-tabulate}
 use Rattle.exprs.specs.declared.token.Token.{Token}
@@ -24,6 +23,7 @@ use Rattle.lines.specs.Bytes.{bytes, isToken, allowed, belongs, prefix}
 use Rattle.lines.specs.Lines.{all, isOne, faultOf}
 use Rattle.lines.specs.Written.{Within}
 use Rattle.lines.specs.Laws.Bytes.{all-nil, all-parts, all-more}
+use Rattle.lines.specs.Laws.Numbers.{by-expression}
 use Rattle.lines.specs.Laws.Expressions.{one-there, one-back}
 use Rattle.models.specs.Refusals.{IsN, smallLetters, capitalLetters, expressionBytes}
 
@@ -218,19 +218,17 @@ module _ (text : List ℕ) (n : ℕ) (isN : IsN text n) (one-N : (m : ℕ) → I
 
   -- the reader's number is the first that fits
   pub expression-tried : Tried (Unfit text capitals e) (faultOf n capitals e)
-  unfolding faultOf
   expression-tried =
-      by-test P (leb 1 (length e) && leb (length e) 64) (λ five.
-      let b = and-eq-true-iff (leb 1 (length e)) (leb (length e) 64) .0 five in
-      let size : Within 1 64 (length e) = record { atLeast = leb-true 1 (length e) (b .0); atMost = leb-true (length e) 64 (b .1) } in
-      by-test P (all InExpression e) (λ six.
-      by-test P (all (Allowed n capitals) e) (λ seven.
-      by-test P (isOne e)
-      (λ eight. tried-none (λ m. past (suc m) (λ _. size) (λ _. six) (λ _. seven) (λ _. eight) m (omega arith)))
-      (λ eight. tried-some (form-fails text capitals e eight) (past 8 (λ _. size) (λ _. six) (λ _. seven) (λ h. absurd (omega arith)))))
-      (λ seven. tried-some (letter-fails text capitals e n isN seven) (past 7 (λ _. size) (λ _. six) (λ h. absurd (omega arith)) (λ h. absurd (omega arith)))))
-      (λ six. tried-some (byte-fails text capitals e six) (past 6 (λ _. size) (λ h. absurd (omega arith)) (λ h. absurd (omega arith)) (λ h. absurd (omega arith)))))
+      by-expression n capitals e (Tried (Unfit text capitals e))
       (λ five. tried-some (length-fails text capitals e five) (past 5 (λ h. absurd (omega arith)) (λ h. absurd (omega arith)) (λ h. absurd (omega arith)) (λ h. absurd (omega arith))))
+      (λ five six.
+      tried-some (byte-fails text capitals e six) (past 6 (λ _. size five) (λ h. absurd (omega arith)) (λ h. absurd (omega arith)) (λ h. absurd (omega arith))))
+      (λ five six seven.
+      tried-some (letter-fails text capitals e n isN seven) (past 7 (λ _. size five) (λ _. six) (λ h. absurd (omega arith)) (λ h. absurd (omega arith))))
+      (λ five six seven eight. tried-some (form-fails text capitals e eight) (past 8 (λ _. size five) (λ _. six) (λ _. seven) (λ h. absurd (omega arith))))
+      (λ five six seven eight. tried-none (λ m. past (suc m) (λ _. size five) (λ _. six) (λ _. seven) (λ _. eight) m (omega arith)))
     where
-      P : ℕ → Type 0
-      P = Tried (Unfit text capitals e)
+      size : (leb 1 (length e) && leb (length e) 64) ≡ true → Within 1 64 (length e)
+      size five =
+          let b = and-eq-true-iff (leb 1 (length e)) (leb (length e) 64) .0 five in
+          record { atLeast = leb-true 1 (length e) (b .0); atMost = leb-true (length e) 64 (b .1) }

@@ -4,8 +4,7 @@ use Prim.Native.Nat.{ℕ, zero, suc, _+_, _≤_}
 use mathlib.Core.Path.{_≡_}
 use mathlib.Core.List.{List}
 use native.Mathlib.Omega.{arith}
-use borrow.Author.Tests.{eqb-false}
-use lib.Dec.{eqb, ltb}
+use lib.Dec.{eqb}
 use lib.ListN.{length, drop, length-drop}
 use Rattle.sets.specs.Laws.Choice.{by-test}
 use Rattle.lines.specs.declared.line.Line.{Line}
@@ -19,6 +18,7 @@ use Rattle.models.specs.declared.model.Reading.{Reading}
 use Rattle.models.specs.declared.model.Rules.{Rules}
 use Rattle.models.specs.Places.{Placed, Passes}
 use Rattle.models.specs.Reading.{textStart, behindLine, noRules, ruled, nextRule, rulesRead, refusedReading, following, finished, readModel}
+use Rattle.models.specs.Laws.Finished.{by-last}
 
 -- ---- the places of the lines
 
@@ -118,18 +118,13 @@ following-ranges p next a b (said {v} {bytes} h) f = f v bytes (h .small)
 
 finished-ranges : (text : List ℕ) (vars rules init prop first : ℕ) (r : Rules) → vars ≤ 7 → rules ≤ 16 → 1 ≤ first → first + rules ≤ 21 → RuleRange first rules r
     → Ranges (finished text vars rules init prop r)
-unfolding finished
 finished-ranges text vars rules init prop first r v u a b h =
     let low : 1 ≤ r .place .line = omega (arith, h .least) in
     let high : r .place .line ≤ 21 = omega (arith, h .most) in
-    by-test Ranges (eqb (r .number) 0)
-    (λ _.
-    by-test Ranges (ltb (r .place .at) (length text))
-    (λ _. refused-ranges 9 (r .place .line) (record { least = omega arith; most = omega arith; firstLine = low; lastLine = high }))
-    (λ _. record { vars = v; rules = u; refusal = λ n l e. let z : _≡_ {A = ℕ} 0 1 = cc in absurd (omega arith) }))
-    (λ e.
-    let some : 1 ≤ r .number = omega (arith, eqb-false (r .number) 0 e) in
-    refused-ranges (r .number) (r .place .line) (record { least = some; most = omega (arith, h .number); firstLine = low; lastLine = high }))
+    by-last text vars rules init prop r Ranges
+    (λ e. refused-ranges (r .number) (r .place .line) (record { least = omega arith; most = omega (arith, h .number); firstLine = low; lastLine = high }))
+    (λ _ _. refused-ranges 9 (r .place .line) (record { least = omega arith; most = omega arith; firstLine = low; lastLine = high }))
+    (λ _ _. record { vars = v; rules = u; refusal = λ n l e. let z : _≡_ {A = ℕ} 0 1 = cc in absurd (omega arith) })
 
 -- The reading of any text is in these ranges.
 pub ranges : (text : List ℕ) → Ranges (readModel text)

@@ -8,8 +8,8 @@ use mathlib.Core.List.{List, [], _∷_, _++_, append-assoc, flatMap}
 use native.Mathlib.Omega.{arith}
 use native.Mathlib.Decide.{decLt}
 use native.Mathlib.Numerals.{add-one}
-use borrow.Author.Tests.{eqb-true, eqb-false, ltb-true, ltb-false}
-use lib.Dec.{eqb, ltb}
+use borrow.Author.Tests.{eqb-true, eqb-false}
+use lib.Dec.{eqb}
 use lib.ListN.{length, drop, drop-of-length-le, length-drop}
 use lib.Seq.{drop-cons, drop-drop}
 use Rattle.sets.specs.Laws.Choice.{by-test}
@@ -30,6 +30,7 @@ use Rattle.models.specs.declared.model.Rules.{Rules}
 use Rattle.models.specs.Reading.{textStart, behindLine, noRules, ruled, nextRule, rulesRead, refusedReading, following, finished, readModel}
 use Rattle.models.specs.Written.{ruleAt}
 use Rattle.models.specs.Refusals.{afterLine, afterLines, vars-line, rules-line, init-line, prop-line, IsN, IsR, IsRuleLine, HasName, FitsAt, bytes-follow, First}
+use Rattle.models.specs.Laws.Finished.{by-last}
 use Rattle.models.specs.Laws.Ranges.{place₂, place₃, place₄, place₅}
 use Rattle.models.specs.Laws.Rules.{taken-back, Ruled, rules-back}
 use Rattle.models.specs.Laws.Grounds.{in-line-unbroken}
@@ -232,25 +233,23 @@ module _ (text : List ℕ) (n R : ℕ) (isN : IsN text n) (isR : IsR text R) (p 
 -- ---- the whole text
 
 finished-right : (text : List ℕ) (vars R init prop : ℕ) (r : Rules) → IsR text R → RulesJudged text R r → RightOutcome text (finished text vars R init prop r .outcome)
-unfolding finished refusedReading Clear
+unfolding refusedReading Clear
 finished-right text vars R init prop r isR (rules-refused z f) =
-    by-test {A = Reading} (λ x. RightOutcome text (x .outcome)) (eqb (r .number) 0) (λ e. absurd (z (eqb-true (r .number) 0 e))) (λ _. first-fits f)
+    by-last text vars R init prop r (λ x. RightOutcome text (x .outcome)) (λ _. first-fits f) (λ e _. absurd (z e)) (λ e _. absurd (z e))
 finished-right text vars R init prop r isR (rules-passed z st l clear) =
     let line : R + 5 ≡ r .place .line = omega arith in
     let before : R + 4 ≡ r .place .line - 1 = omega arith in
     let rest : afterLines (R + 4) text ≡ drop (r .place .at) text = ap (λ n. afterLines n text) before ∙ st .begins in
-    by-test {A = Reading} (λ x. RightOutcome text (x .outcome)) (eqb (r .number) 0)
-    (λ _.
-    by-test {A = Reading} (λ x. RightOutcome text (x .outcome)) (ltb (r .place .at) (length text))
-    (λ b.
-    let some : afterLines (R + 4) text ≢ [] = λ q. omega (arith, ltb-true (r .place .at) (length text) b, length-drop (r .place .at) text, ap length (sym rest ∙ q)) in
+    by-last text vars R init prop r (λ x. RightOutcome text (x .outcome))
+    (λ e. absurd (e z))
+    (λ _ b.
+    let some : afterLines (R + 4) text ≢ [] = λ q. omega (arith, length-drop (r .place .at) text, ap length (sym rest ∙ q)) in
     first-fits
     (first-on text 9 (r .place .line) (λ m k h. clear m k (omega arith)) (subst (FitsAt text 9) line (bytes-follow isR some))
     (λ m h f. omega (arith, fits-behind isR f (omega arith) .0))))
-    (λ b.
-    let empty : afterLines (R + 4) text ≡ [] = rest ∙ drop-of-length-le text (ltb-false (r .place .at) (length text) b) in
-    none-fits (λ m k f. go m k f empty (decLt k (R + 5)))))
-    (λ e. absurd (eqb-false (r .number) 0 e z))
+    (λ _ b.
+    let empty : afterLines (R + 4) text ≡ [] = rest ∙ drop-of-length-le text b in
+    none-fits (λ m k f. go m k f empty (decLt k (R + 5))))
   where
     go : (m k : ℕ) → FitsAt text m k → afterLines (R + 4) text ≡ [] → Dec (k < R + 5) → ⊥
     go m k f empty (yes b) = clear m k (omega arith) f

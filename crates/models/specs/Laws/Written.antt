@@ -6,10 +6,7 @@ use mathlib.Core.Bool.{Bool, true, false}
 use mathlib.Core.List.{List, [], _∷_, _++_, append-nil, append-assoc, flatMap}
 use mathlib.Core.Option.{some}
 use native.Mathlib.Omega.{arith}
-use borrow.Author.Tests.{eq-eqb, eqb-true, le-ltb, ltb-false}
-use lib.Dec.{eqb, ltb}
 use lib.ListN.{length, getD, drop, length-append, drop-of-length-le}
-use Rattle.sets.specs.Laws.Choice.{by-test}
 use Rattle.sets.specs.Laws.Tabulated.{length-tabulate, getD-tabulate, tabulated}
 use Rattle.exprs.specs.Expr.{Expr, written, size}
 use Rattle.exprs.specs.Reading.{readExpr}
@@ -27,8 +24,9 @@ use Rattle.models.specs.declared.model.Outcome.the-variants.{Accepted}
 use Rattle.models.specs.declared.model.LineStart.{LineStart}
 use Rattle.models.specs.declared.model.Reading.{Reading}
 use Rattle.models.specs.declared.model.Rules.{Rules}
-use Rattle.models.specs.Reading.{textStart, behindLine, rulesRead, following, onLine, finished, readModel}
+use Rattle.models.specs.Reading.{textStart, behindLine, rulesRead, refusedReading, following, onLine, finished, readModel}
 use Rattle.models.specs.Written.{Described, ruleAt, Legal, writtenModel, orFalse, exprAt, ruleIn, described}
+use Rattle.models.specs.Laws.Finished.{last-numbers, by-last}
 use Rattle.models.specs.Laws.Ranges.{place₂, place₃, place₄, place₅}
 use Rattle.models.specs.Laws.Rules.{LegalRules, behind, Upto, rules-back, rules-there}
 
@@ -119,22 +117,14 @@ pub read-is : (text : List ℕ) {n count init prop a b c d : ℕ} → countLine 
 unfolding readModel
 read-is text p q r s = rw (p, q, r, s)
 
-finished-is : (text : List ℕ) (n count init prop : ℕ) (r : Rules) → r .number ≡ 0 → length text ≤ r .place .at
-    → finished text n count init prop r
-    ≡ record { outcome = Accepted; model = record { vars = n; rules = count; init = init; prop = prop; names = r .names; steps = r .steps } }
-unfolding finished
-finished-is text n count init prop r p h = rw (eq-eqb (r .number) 0 p, le-ltb (r .place .at) (length text) h)
-
 finished-back : (text : List ℕ) (n count init prop : ℕ) (r : Rules) → finished text n count init prop r .outcome ≡ Accepted
     → (r .number ≡ 0) × (length text ≤ r .place .at)
-unfolding finished
+unfolding refusedReading
 finished-back text n count init prop r =
-    by-test {A = Reading} (λ x. x .outcome ≡ Accepted → (r .number ≡ 0) × (length text ≤ r .place .at)) (eqb (r .number) 0)
-    (λ e.
-    by-test {A = Reading} (λ x. x .outcome ≡ Accepted → (r .number ≡ 0) × (length text ≤ r .place .at)) (ltb (r .place .at) (length text))
+    by-last text n count init prop r (λ x. x .outcome ≡ Accepted → (r .number ≡ 0) × (length text ≤ r .place .at))
     (λ _ q. let z : _≡_ {A = ℕ} 0 1 = cc in absurd (omega arith))
-    (λ h _. (eqb-true (r .number) 0 e, ltb-false (r .place .at) (length text) h)))
-    (λ _ q. let z : _≡_ {A = ℕ} 0 1 = cc in absurd (omega arith))
+    (λ _ _ q. let z : _≡_ {A = ℕ} 0 1 = cc in absurd (omega arith))
+    (λ e h _. (e, h))
 
 -- ---- the whole text
 
@@ -200,7 +190,7 @@ written-is-found M legal =
     (ap (countLine rulesKey 16) t₂ ∙ rules-reads .there (length rules) (legal .count) (l₃ ++ (l₄ ++ last)))
     (ap (stateLine initKey n) t₃ ∙ init-reads n h .there (M .init) (legal .init) (l₄ ++ last))
     (ap (stateLine propKey n) t₄ ∙ prop-reads n h .there (M .prop) (legal .prop) last)
-    ∙ finished-is text n (length rules) (p₃ .at + length initKey) (p₄ .at + length propKey) r (u .number) size))
+    ∙ last-numbers text n (length rules) (p₃ .at + length initKey) (p₄ .at + length propKey) r .byNone (u .number) size))
     (record {
       accepted = refl;
       vars = refl;

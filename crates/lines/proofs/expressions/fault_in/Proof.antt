@@ -1,8 +1,8 @@
 -- `lines::expressions::fault_in` meets its contract: at each way out, the tests that led there pick the case of `faultOf`.
 -- Assumes nothing.
 use Prim.Native.Nat.{ℕ, _≤_, _<_}
-use mathlib.Core.Path.{_≡_, sym, _∙_}
-use mathlib.Core.Bool.{Bool, true, false, and-false}
+use mathlib.Core.Path.{_≡_, sym, ap, _∙_}
+use mathlib.Core.Bool.{Bool, true, false, _&&_, and-false}
 use mathlib.Core.List.{List}
 use native.Mathlib.Omega.{arith}
 use borrow.Author.Needs.{needs}
@@ -13,36 +13,34 @@ use Rattle.lines.specs.declared.classes.Class.{Class}
 use Rattle.lines.specs.declared.classes.Class.the-variants.{InExpression, Allowed}
 use Rattle.lines.specs.Bytes.{prefix}
 use Rattle.lines.specs.Lines.{all, isOne, faultOf}
+use Rattle.lines.specs.Laws.Numbers.{expression-numbers}
 use Rattle.lines.proofs.expressions.fault_in.Statement.{statement}
 use Rattle.lines.proofs.expressions.fault_in.Tie as tie
 
 module _ (vars : ℕ) (capitals : Bool) (e : List ℕ) where
   too-short : length e ≡ 0 → 5 ≡ faultOf vars capitals e
-  unfolding faultOf
-  too-short h = rw (lt-leb 1 (length e) (omega arith))
+  too-short h = sym (expression-numbers vars capitals e .byLength (ap (λ b. b && leb (length e) 64) (lt-leb 1 (length e) (omega arith))))
 
   too-long : 64 < length e → 5 ≡ faultOf vars capitals e
-  unfolding faultOf
-  too-long h = rw (lt-leb (length e) 64 h, and-false (leb 1 (length e)))
+  too-long h = sym (expression-numbers vars capitals e .byLength (rw (lt-leb (length e) 64 h) (and-false (leb 1 (length e)))))
 
   module _ (low : 1 ≤ length e) (high : length e ≤ 64) where
+    sized : (leb 1 (length e) && leb (length e) 64) ≡ true
+    sized = rw (le-leb 1 (length e) low, le-leb (length e) 64 high)
+
     wrong-byte : all InExpression e ≡ false → 6 ≡ faultOf vars capitals e
-    unfolding faultOf
-    wrong-byte q = rw (le-leb 1 (length e) low, le-leb (length e) 64 high, q)
+    wrong-byte q = sym (expression-numbers vars capitals e .byByte sized q)
 
     module _ (bytes : all InExpression e ≡ true) where
       wrong-letter : all (Allowed vars capitals) e ≡ false → 7 ≡ faultOf vars capitals e
-      unfolding faultOf
-      wrong-letter q = rw (le-leb 1 (length e) low, le-leb (length e) 64 high, bytes, q)
+      wrong-letter q = sym (expression-numbers vars capitals e .byLetter sized bytes q)
 
       module _ (letters : all (Allowed vars capitals) e ≡ true) where
         right : isOne e ≡ true → 0 ≡ faultOf vars capitals e
-        unfolding faultOf
-        right q = rw (le-leb 1 (length e) low, le-leb (length e) 64 high, bytes, letters, q)
+        right q = sym (expression-numbers vars capitals e .byNone sized bytes letters q)
 
         not-one : isOne e ≡ false → 8 ≡ faultOf vars capitals e
-        unfolding faultOf
-        not-one q = rw (le-leb 1 (length e) low, le-leb (length e) 64 high, bytes, letters, q)
+        not-one q = sym (expression-numbers vars capitals e .byForm sized bytes letters q)
 
 all-in : (k : Class) (e : List ℕ) (n : ℕ) → n ≡ prefix k e → n ≡ length e → all k e ≡ true
 unfolding all

@@ -3,7 +3,7 @@
 use Prim.Native.Nat.{ℕ, _+_, _-_, _≤_, _<_}
 use mathlib.Core.Path.{_≡_, sym, ap, _∙_}
 use mathlib.Core.Logic.{_≢_}
-use mathlib.Core.Bool.{Bool, true, false, cond, _&&_, and-eq-true-iff}
+use mathlib.Core.Bool.{Bool, true, false, _&&_, and-eq-true-iff}
 use mathlib.Core.List.{List}
 use native.Mathlib.Omega.{arith}
 use borrow.Author.Needs.{needs}
@@ -13,29 +13,23 @@ use lib.ListN.{length, getD, take, drop, length-drop}
 use Rattle.lines.specs.declared.classes.Class.the-variants.{InName}
 use Rattle.lines.specs.declared.line.End.{End}
 use Rattle.lines.specs.declared.line.End.the-variants.{Missing}
-use Rattle.lines.specs.declared.names.RuleLine.{RuleLine}
 use Rattle.lines.specs.declared.names.RuleLine.the-variants.{RuleFault, RuleRead}
 use Rattle.lines.specs.Bytes.{prefix}
 use Rattle.lines.specs.Lines.{ruleKey, lineLength, endOf, valueOf, unlessFault, isNamed, faultOf, partsAt, ruleLine}
+use Rattle.lines.specs.Laws.Numbers.{RuleNumbers, rule-numbers}
 use Rattle.lines.specs.Laws.Lines.{unfaulted}
-use Rattle.lines.proofs.LineFacts.{Ended, ended, no-line, end-within, value-is, on-line, faulted}
+use Rattle.lines.proofs.LineFacts.{Ended, ended, no-end, end-within, value-is, faulted}
 use Rattle.lines.proofs.names.rule_line.Statement.{statement}
 use Rattle.lines.proofs.names.rule_line.Tie as tie
 
 no-rule-line : (vars : ℕ) (taken : List ℕ → Bool) (at : ℕ) (s : List ℕ) {r : End} → r ≡ endOf ruleKey s → r ≡ Missing → RuleFault 1 ≡ ruleLine vars taken at s
-unfolding ruleLine
-no-rule-line vars taken at s = no-line (RuleFault 1) _ ruleKey s
+no-rule-line vars taken at s said told = sym (rule-numbers vars taken at s .byLine (no-end ruleKey s said told))
 
 -- a name as `is_named` tests it
 named-of : (v : List ℕ) {k b : ℕ} {x : Bool} → k ≡ prefix InName v → b ≡ getD v k 0 → x ≡ (leb 1 k && (leb k 8 && eqb b 58)) → isNamed v ≡ x
 unfolding isNamed
 named-of v {k} {b} {x} pk pb px =
     ap (λ n. leb 1 n && (leb n 8 && eqb (getD v n 0) 58)) (sym pk) ∙ ap (λ a. leb 1 k && (leb k 8 && eqb a 58)) (sym pb) ∙ sym px
-
--- the rest of a rule line that begins with a proper name
-rest-of-line : ℕ → (List ℕ → Bool) → ℕ → List ℕ → List ℕ → ℕ → RuleLine
-rest-of-line vars taken at s v k =
-    cond (taken (take k v)) (RuleFault 4) (unlessFault RuleFault (faultOf vars true (drop (k + 1) v)) (RuleRead (partsAt at k) (lineLength s + 1)))
 
 -- A line s that ends at `end`: its value v, the length k of the name at its start, and whether the name is proper.
 record Valued (s : List ℕ) (end : ℕ) (v : List ℕ) (k : ℕ) (x : Bool) : Type 0 where
@@ -49,34 +43,34 @@ module _ (vars : ℕ) (taken : List ℕ → Bool) (at : ℕ) {s : List ℕ} {end
   v-is : valueOf ruleKey s ≡ v
   v-is = sym (l .value ∙ value-is (l .line))
 
-  opened : (y : RuleLine) → cond x (rest-of-line vars taken at s v k) (RuleFault 3) ≡ y → y ≡ ruleLine vars taken at s
-  unfolding ruleLine rest-of-line
-  opened y q = on-line (l .line) (RuleFault 1) y (rw (v-is, l .proper, ← l .name) q)
+  numbers : RuleNumbers vars taken at s (ruleLine vars taken at s)
+  numbers = rule-numbers vars taken at s
+
+  proper-is : isNamed (valueOf ruleKey s) ≡ x
+  proper-is = ap isNamed v-is ∙ l .proper
 
   misnamed : x ≡ false → RuleFault 3 ≡ ruleLine vars taken at s
-  misnamed h = opened (RuleFault 3) (rw h)
+  misnamed h = sym (numbers .byName (l .line .line) (proper-is ∙ h))
 
   module _ (good : x ≡ true) {name : List ℕ} (pn : name ≡ take k v) {y : Bool} (py : y ≡ taken name) where
-    taken-is : taken (take k v) ≡ y
-    taken-is = ap taken (sym pn) ∙ sym py
+    taken-is : taken (take (prefix InName (valueOf ruleKey s)) (valueOf ruleKey s)) ≡ y
+    taken-is = rw (v-is, ← l .name) (ap taken (sym pn) ∙ sym py)
 
     repeated : y ≡ true → RuleFault 4 ≡ ruleLine vars taken at s
-    unfolding rest-of-line
-    repeated h = opened (RuleFault 4) (rw (good, taken-is, h))
+    repeated h = sym (numbers .byTaken (l .line .line) (proper-is ∙ good) (taken-is ∙ h))
 
     module _ (fresh : y ≡ false) {r : List ℕ} (pr : r ≡ drop (k + 1) v) {number : ℕ} (pf : number ≡ faultOf vars true r) where
       number-is : faultOf vars true (drop (k + 1) v) ≡ number
       number-is = ap (faultOf vars true) (sym pr) ∙ sym pf
 
+      opened : ruleLine vars taken at s ≡ unlessFault RuleFault number (RuleRead (partsAt at k) (lineLength s + 1))
+      opened = numbers .byRest (l .line .line) (proper-is ∙ good) (taken-is ∙ fresh) ∙ rw (v-is, ← l .name, number-is)
+
       at-fault : number ≢ 0 → RuleFault number ≡ ruleLine vars taken at s
-      unfolding rest-of-line
-      at-fault h = opened (RuleFault number) (rw (good, taken-is, fresh, number-is) (faulted RuleFault number _ h))
+      at-fault h = sym (opened ∙ faulted RuleFault number _ h)
 
       read : number ≡ 0 → RuleRead (partsAt at k) (end + 1) ≡ ruleLine vars taken at s
-      unfolding rest-of-line
-      read h =
-          opened (RuleRead (partsAt at k) (end + 1))
-          (rw (good, taken-is, fresh, number-is) (unfaulted RuleFault number _ h ∙ ap (λ n. RuleRead (partsAt at k) (n + 1)) (sym (l .line .length-is))))
+      read h = sym (opened ∙ unfaulted RuleFault number _ h ∙ ap (λ n. RuleRead (partsAt at k) (n + 1)) (sym (l .line .length-is)))
 
 -- ---- the places of the code, each named from the one before it
 
