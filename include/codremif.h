@@ -4,7 +4,7 @@
  * The manual for a C programmer. docs/FORMAT.md gives the meanings, with examples; this page
  * repeats what a host needs. It is C99, and C++98 or later.
  *
- * A model is a text: named Boolean rules over one second and the next, and one property. Four
+ * A model is a text: named Boolean rules over one second and the next, and one property. Six
  * calls read it:
  *
  *   codremif_judge   does a set of rules keep the property in every state that can be reached?
@@ -13,8 +13,10 @@
  *   codremif_cuts    every cut: a set of rules whose removal breaks the property, while no
  *                    proper part of it does that
  *   codremif_must    MUST: the rules that all cores have in common
+ *   codremif_may     MAY: the rules that some core has, but not all cores have
+ *   codremif_irr     the irrelevant rules: those that no core has
  *
- * A fifth, codremif_version, tells which library is linked.
+ * One more, codremif_version, tells which library is linked.
  *
  * Build. `rt staticlib codremif` at the repository's top proves the library and writes
  *   target/staticlib/libcodremif.a, for x86-64 Linux:
@@ -61,10 +63,15 @@
  *   A list (of cores or of cuts) has two bytes for each set, low byte first (codremif_set_at
  *   reads one), fewer rules first, then the smaller set number first. Each set stands in it once.
  *
+ * Kinds. Each rule is in exactly one of MUST, MAY and the irrelevant rules. Where some rule is in
+ *   a core, the model without its irrelevant rules has the same cores by name. Where the property
+ *   holds, one rule outside MUST may get any other legal expression, and it still holds; with
+ *   two changed at once it need not.
+ *
  * Edges. The property holds if the full set does, and that is exactly when there is a core:
  *   codremif_count of the cores is then 1 or more. If the full set is broken, there is no core,
- *   the one cut is set 0, and MUST is 0. If set 0 holds, it is the one core, there is no cut, and
- *   MUST is 0. So MUST 0 alone does not say which of these it is.
+ *   and the one cut is set 0. If set 0 holds, it is the one core, and there is no cut. In both
+ *   cases MUST and MAY are 0, and every rule is irrelevant: these three do not say which it is.
  *
  * Who owns what. The caller owns all memory. The text is only read. Lent bytes (`trace`, `sets`)
  *   are written from their start, and bytes past the trace or the list keep their content; what
@@ -101,8 +108,8 @@
  * Time. Judging a set and giving MUST take a millisecond or two at the most, on one core of a
  *   machine of today; so do the lists of nearly every model. The time of a list grows with the
  *   cores and cuts: where a model has thousands of both it takes some ten milliseconds (40 is the
- *   most that was seen, on models/pages/eight_pages.txt). This is measured, not proved. That a
- *   call ends is proved.
+ *   most that was seen, on models/pages/eight_pages.txt). MAY and the irrelevant rules take as
+ *   long as a list. This is measured, not proved. That a call ends is proved.
  *
  * Stack. A call takes all its memory from the caller's stack: CODREMIF_STACK_BYTES at most, below
  *   the frame of the caller, what memcpy and memset take included. hosts/c measures it, and adds
@@ -138,8 +145,8 @@ extern "C" {
 #endif
 
 /* The version that this header belongs to: major * 1,000,000 + minor * 1,000 + patch. */
-#define CODREMIF_VERSION 1000000
-#define CODREMIF_VERSION_STRING "1.0.0"
+#define CODREMIF_VERSION 1001000
+#define CODREMIF_VERSION_STRING "1.1.0"
 
 /* An accepted text has at most so many bytes: two counts, `init`, `prop` and 16 rules at their
  * longest. */
@@ -167,6 +174,8 @@ extern "C" {
 #define CODREMIF_CORES_STACK_BYTES 131072
 #define CODREMIF_CUTS_STACK_BYTES 131072
 #define CODREMIF_MUST_STACK_BYTES 65536
+#define CODREMIF_MAY_STACK_BYTES 131072
+#define CODREMIF_IRR_STACK_BYTES 131072
 #define CODREMIF_STACK_BYTES 131072
 
 /*
@@ -244,6 +253,20 @@ CODREMIF_LOOK_AT_IT
 uint64_t codremif_must(const uint8_t *text, size_t text_len);
 
 /*
+ * Gives MAY: the rules in some core but not in MUST. Accepted: codremif_set. Refused by 1 to 9
+ * (the text). 0 where there is no core, and where there is only one.
+ */
+CODREMIF_LOOK_AT_IT
+uint64_t codremif_may(const uint8_t *text, size_t text_len);
+
+/*
+ * Gives the irrelevant rules: those in no core. Accepted: codremif_set. Refused by 1 to 9 (the
+ * text). The full set where there is no core, and where set 0 is the one core.
+ */
+CODREMIF_LOOK_AT_IT
+uint64_t codremif_irr(const uint8_t *text, size_t text_len);
+
+/*
  * Gives the library's version, as CODREMIF_VERSION gives the header's. It is no answer to be
  * taken apart. Not less than CODREMIF_VERSION, and the same when divided by 1,000,000: the
  * library has all that the header declares.
@@ -290,7 +313,7 @@ static inline size_t codremif_count(uint64_t answer)
     return (answer >> 16) & 0xFFFFFF;
 }
 
-/* Of codremif_must: the set. */
+/* Of codremif_must, codremif_may and codremif_irr: the set. */
 static inline uint32_t codremif_set(uint64_t answer)
 {
     return (answer >> 16) & 0xFFFFFF;

@@ -1,5 +1,5 @@
 /*
- * Tests of the four calls as a C host makes them. What is expected is written by hand from docs/FORMAT.md. Each text stands in a block of its
+ * Tests of the calls as a C host makes them. What is expected is written by hand from docs/FORMAT.md. Each text stands in a block of its
  * own length, and each lent slice between guards, so that valgrind, and without it the guards, see a byte too many.
  */
 #define _XOPEN_SOURCE 700
@@ -97,6 +97,16 @@ static int listed(list_call call, struct text text, size_t lent_bytes, uint64_t 
 static const char tremor[] = "vars=3\nrules=3\ninit=!c\nprop=>c&ab\nrule=ra:>CA\nrule=rb:>CB\nrule=vote:>C&AB\n";
 static const char chain[] = "vars=2\nrules=2\ninit=&!a!b\nprop=!b\nrule=same:=Aa\nrule=late:>Ba\n";
 static const char quiet[] = "vars=1\nrules=1\ninit=1\nprop=1\nrule=any:1\n";
+static const char battery[] = "vars=4\nrules=5\ninit=!c\nprop=>c&ab\nrule=motion:>CA\nrule=quiet:>!a!C\nrule=power:>CB\nrule=double:>C&aA\n"
+                              "rule=lamp:=DC\n";
+static const char stale[] = "vars=4\nrules=2\ninit=&!a&!b&!c!d\nprop=>c&ab\nrule=mem:=Da\nrule=vote:>C&BD\n";
+
+/* Whether MUST, MAY and the irrelevant rules are these sets. */
+static int has_kinds(struct text text, uint64_t must, uint64_t may, uint64_t irrelevant)
+{
+    return codremif_must(text.bytes, text.length) == 65536 * must && codremif_may(text.bytes, text.length) == 65536 * may &&
+           codremif_irr(text.bytes, text.length) == 65536 * irrelevant;
+}
 
 static void test_unpacking(void)
 {
@@ -160,7 +170,7 @@ static void test_tremor(void)
     check(listed(codremif_cores, text, 25740, 2 * 65536, (const uint8_t[]){4, 0, 3, 0}, 4), "Tremor: the cores are 4, 3");
     check(listed(codremif_cores, text, 4, 2 * 65536, (const uint8_t[]){4, 0, 3, 0}, 4), "Tremor: four bytes take the cores");
     check(listed(codremif_cuts, text, 5, 2 * 65536, (const uint8_t[]){5, 0, 6, 0}, 4), "Tremor: the cuts are 5, 6; a fifth byte is kept");
-    check(codremif_must(text.bytes, text.length) == 0, "Tremor: MUST is 0");
+    check(has_kinds(text, 0, 7, 0), "Tremor: MUST is 0, MAY is every rule, and no rule is irrelevant");
     check(judged(text, 8, 8, 10, NULL, 0) && judged(text, 65536, 8, 10, NULL, 0) && judged(text, 0xFFFFFFFF, 0, 10, NULL, 0),
           "Tremor: sets 8, 65536 and 2^32 - 1 are refused by 10");
     check(judged(text, 0, 1, 11, NULL, 0) && judged(text, 0, 0, 11, NULL, 0), "Tremor: one byte for the trace is refused by 11");
@@ -176,12 +186,36 @@ static void test_other_models(void)
     check(judged(text, 1, 4, 2 * 65536, (const uint8_t[]){0, 2}, 2), "N 2: set 1 has the trace 0, 2");
     check(listed(codremif_cores, text, 8, 65536, (const uint8_t[]){3, 0}, 2), "N 2: the core is 3");
     check(listed(codremif_cuts, text, 8, 2 * 65536, (const uint8_t[]){1, 0, 2, 0}, 4), "N 2: the cuts are 1, 2");
-    check(codremif_must(text.bytes, text.length) == 3 * 65536, "N 2: MUST is 3");
+    check(has_kinds(text, 3, 0, 0), "N 2: MUST is 3, MAY is 0, and no rule is irrelevant");
     free(text.bytes);
     text = text_of(quiet, sizeof quiet - 1);
     check(listed(codremif_cores, text, 2, 65536, (const uint8_t[]){0, 0}, 2), "rule 1: the core is 0");
     check(listed(codremif_cuts, text, 0, 0, NULL, 0), "rule 1: there is no cut, which takes no byte");
     free(text.bytes);
+}
+
+/* A text in a block of its own length has these kinds. */
+static void check_kinds(const char *bytes, size_t length, uint64_t must, uint64_t may, uint64_t irrelevant, const char *what)
+{
+    struct text text = text_of(bytes, length);
+    check(has_kinds(text, must, may, irrelevant), what);
+    free(text.bytes);
+}
+
+static void test_kinds(void)
+{
+    struct model model;
+    check_kinds(battery, sizeof battery - 1, 4, 9, 18, "all kinds: MUST is power, MAY motion and double, irrelevant quiet and lamp");
+    check_kinds(quiet, sizeof quiet - 1, 0, 0, 1, "set 0 is the one core: every rule is irrelevant");
+    check_kinds(stale, sizeof stale - 1, 0, 0, 3, "no core: every rule is irrelevant");
+    model_wide(&model, "!a", "1");
+    check_kinds(model.text, model.length, 0, 0, 0xFFFF, "no core and sixteen rules: every rule is irrelevant");
+    model_wide(&model, "!a", ">Aa");
+    check_kinds(model.text, model.length, 0, 0xFFFF, 0, "sixteen rules alike, each a core alone: every rule is in MAY");
+    model_begin(&model, 7, 16, "!a", "!a");
+    for (unsigned i = 0; i < 16; i++)
+        model_rule(&model, i, i == 15 ? "!A" : "=Bb");
+    check_kinds(model.text, model.length, 0x8000, 0, 0x7FFF, "the last of sixteen rules is the one core: MUST, and the others are irrelevant");
 }
 
 struct refused {
@@ -224,7 +258,8 @@ static const struct refused refused_texts[] = {
 /* Whether every call refuses the text by this number and line, with nothing beside them, and leaves each lent byte as it was. */
 static int refused_by_all(struct text text, uint64_t answer)
 {
-    int good = codremif_must(text.bytes, text.length) == answer;
+    int good = codremif_must(text.bytes, text.length) == answer && codremif_may(text.bytes, text.length) == answer &&
+               codremif_irr(text.bytes, text.length) == answer;
     for (size_t lent_bytes = 0; lent_bytes <= 128; lent_bytes += 128) {
         good = judged(text, 0, lent_bytes, answer, NULL, 0) && good;
         good = judged(text, 0xFFFFFFFF, lent_bytes, answer, NULL, 0) && good;
@@ -259,7 +294,8 @@ static void test_null(void)
     size_t length = sizeof tremor - 1, still_length = sizeof quiet - 1;
     check(codremif_judge(NULL, 0, 0, lent, 4) == 257 && codremif_judge(NULL, 0, 0, NULL, 0) == 257 &&
               codremif_cores(NULL, 0, lent, 4) == 257 && codremif_cores(NULL, 0, NULL, 0) == 257 &&
-              codremif_cuts(NULL, 0, lent, 4) == 257 && codremif_cuts(NULL, 0, NULL, 0) == 257 && codremif_must(NULL, 0) == 257,
+              codremif_cuts(NULL, 0, lent, 4) == 257 && codremif_cuts(NULL, 0, NULL, 0) == 257 && codremif_must(NULL, 0) == 257 &&
+              codremif_may(NULL, 0) == 257 && codremif_irr(NULL, 0) == 257,
           "no text at NULL: number 1, line 1");
     check(memcmp(lent, (const uint8_t[]){1, 2, 3, 4}, 4) == 0, "no text at NULL: the lent bytes keep their content");
     check(codremif_judge(text, length, 0, NULL, 0) == 11 && codremif_judge(text, length, 7, NULL, 0) == TWO_40,
@@ -301,7 +337,7 @@ static void test_pairs(void)
     check(good, "eight pairs: the cuts are the pairs");
     check(judged(text, 0xFFFF ^ 0xC00, 2, 2 * 65536, (const uint8_t[]){0, 13}, 2), "eight pairs: without the sixth the trace is 0, 13");
     check(listed(codremif_cores, text, 511, 11, NULL, 0), "eight pairs: 511 bytes are refused by 11");
-    check(codremif_must(text.bytes, text.length) == 0, "eight pairs: MUST is 0");
+    check(has_kinds(text, 0, 0xFFFF, 0), "eight pairs: MUST is 0, and MAY is every rule");
     free(text.bytes);
 }
 
@@ -340,7 +376,7 @@ static void test_bases(void)
 }
 
 struct answers {
-    uint64_t judge, cores, cuts, must;
+    uint64_t judge, cores, cuts, must, may, irr;
     uint8_t trace[CODREMIF_TRACE_BYTES], core_sets[CODREMIF_LIST_BYTES], cut_sets[CODREMIF_LIST_BYTES];
 };
 
@@ -352,6 +388,8 @@ static void ask_all(const struct model *model, struct answers *answers)
     answers->cores = codremif_cores(text, model->length, answers->core_sets, sizeof answers->core_sets);
     answers->cuts = codremif_cuts(text, model->length, answers->cut_sets, sizeof answers->cut_sets);
     answers->must = codremif_must(text, model->length);
+    answers->may = codremif_may(text, model->length);
+    answers->irr = codremif_irr(text, model->length);
 }
 
 #define MODELS 3
@@ -441,6 +479,7 @@ int main(void)
     test_constants();
     test_tremor();
     test_other_models();
+    test_kinds();
     test_refused_texts();
     test_null();
     test_unwritten_bytes();

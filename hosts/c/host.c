@@ -1,9 +1,9 @@
 /*
  * A small C host: host MODEL-FILE [SET]
  *
- * Reads a model file, judges the set of rules (the full set if none is given) and prints the verdict, the trace if it is broken, MUST, the
- * cores and the cuts, each set as its number and its names. Exit status and messages are those of ./report: 0 answered; 1 refused, with one
- * line on standard error; 2 wrong use, or something could not be read or written.
+ * Reads a model file, judges the set of rules (the full set if none is given) and prints the verdict, the trace if it is broken, MUST, MAY, the
+ * irrelevant rules, the cores and the cuts, each set as its number and its names. Exit status and messages are those of ./report: 0 answered;
+ * 1 refused, with one line on standard error; 2 wrong use, or something could not be read or written.
  */
 #include <errno.h>
 #include <stdio.h>
@@ -24,6 +24,7 @@ struct text {
     size_t length;
 };
 
+typedef uint64_t (*set_call)(const uint8_t *, size_t);
 typedef uint64_t (*list_call)(const uint8_t *, size_t, uint8_t *, size_t);
 
 static int read_text(const char *path, struct text *text)
@@ -78,12 +79,12 @@ static int show_verdict(const struct text *text, uint32_t set)
     return 1;
 }
 
-static int show_must(const struct text *text)
+static int show_set(const char *key, set_call call, const struct text *text)
 {
-    uint64_t answer = codremif_must(text->bytes, text->length);
+    uint64_t answer = call(text->bytes, text->length);
     if (!accepted(answer))
         return 0;
-    print_set("must", text, codremif_set(answer));
+    print_set(key, text, codremif_set(answer));
     return 1;
 }
 
@@ -145,8 +146,8 @@ int main(int argc, char **argv)
         return REFUSED;
     if (argc == 2)
         set = codremif_full_set(text.bytes, text.length);
-    if (!show_verdict(&text, set) || !show_must(&text) || !show_list("core", codremif_cores, &text) ||
-        !show_list("cut", codremif_cuts, &text))
+    if (!show_verdict(&text, set) || !show_set("must", codremif_must, &text) || !show_set("may", codremif_may, &text) ||
+        !show_set("irr", codremif_irr, &text) || !show_list("core", codremif_cores, &text) || !show_list("cut", codremif_cuts, &text))
         return written(REFUSED);
     return written(ANSWERED);
 }

@@ -17,7 +17,7 @@
 #define PAINT 0xA5
 #define ROUND_BYTES 65536
 
-enum call { JUDGE, CORES, CUTS, MUST, CALLS };
+enum call { JUDGE, CORES, CUTS, MUST, MAY, IRR, CALLS };
 
 static const struct {
     const char *name;
@@ -27,6 +27,8 @@ static const struct {
     {"codremif_cores", CODREMIF_CORES_STACK_BYTES},
     {"codremif_cuts", CODREMIF_CUTS_STACK_BYTES},
     {"codremif_must", CODREMIF_MUST_STACK_BYTES},
+    {"codremif_may", CODREMIF_MAY_STACK_BYTES},
+    {"codremif_irr", CODREMIF_IRR_STACK_BYTES},
 };
 
 static size_t most[CALLS];
@@ -61,7 +63,9 @@ static uint64_t ask(const struct run *run)
     case JUDGE: return codremif_judge(text, length, run->set, run->lent, run->lent_length);
     case CORES: return codremif_cores(text, length, run->lent, run->lent_length);
     case CUTS: return codremif_cuts(text, length, run->lent, run->lent_length);
-    default: return codremif_must(text, length);
+    case MUST: return codremif_must(text, length);
+    case MAY: return codremif_may(text, length);
+    default: return codremif_irr(text, length);
     }
 }
 
@@ -126,7 +130,8 @@ static void measure_all(const struct model *model, unsigned number)
         measure(model, call, 0, CODREMIF_LIST_BYTES);
         measure(model, call, 0, 0);
     }
-    as_meant = codremif_number(measure(model, MUST, 0, 0)) == number && as_meant;
+    for (enum call call = MUST; call <= IRR; call++)
+        as_meant = codremif_number(measure(model, call, 0, 0)) == number && as_meant;
 }
 
 #define TIMES_4(x) x x x x

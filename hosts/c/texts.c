@@ -1,7 +1,8 @@
 /*
  * texts COUNT: tests of what the header itself reads: how many rules an accepted text has, its full set and the names of its rules. Random models are
- * written here, so what is expected is known, and the library is asked whether it sees as many rules. Each text stands in a block of its own
- * length, so that valgrind sees a byte too many; cut-off and damaged texts must do no harm.
+ * written here, so what is expected is known, and the library is asked whether it sees as many rules, and whether MUST, MAY and the irrelevant rules
+ * make up the full set. Each text stands in a block of its own length, so that valgrind sees a byte too many; cut-off and damaged texts must do no
+ * harm.
  */
 #include <stdio.h>
 #include <stdlib.h>
@@ -86,9 +87,18 @@ static int is_full_set(const uint8_t *text, size_t text_len, uint32_t set)
            codremif_number(codremif_judge(text, text_len, set + 1, trace, sizeof trace)) == CODREMIF_NO_SUCH_SET;
 }
 
+/* Whether each rule of the full set, and no other, is in exactly one of MUST, MAY and the irrelevant rules. */
+static int has_one_kind_each(const uint8_t *text, size_t text_len, uint32_t full)
+{
+    uint64_t must = codremif_must(text, text_len), may = codremif_may(text, text_len), irrelevant = codremif_irr(text, text_len);
+    return codremif_accepted(must) && codremif_accepted(may) && codremif_accepted(irrelevant) &&
+           codremif_set(must) + codremif_set(may) + codremif_set(irrelevant) == full &&
+           (codremif_set(must) | codremif_set(may) | codremif_set(irrelevant)) == full;
+}
+
 static void test_random_models(unsigned count)
 {
-    int accepted = 1, rules_agree = 1, sets_agree = 1, names_agree = 1, cores_agree = 1, seen[CODREMIF_RULES + 1] = {0};
+    int accepted = 1, rules_agree = 1, sets_agree = 1, names_agree = 1, cores_agree = 1, kinds_agree = 1, seen[CODREMIF_RULES + 1] = {0};
     unsigned with_core = 0;
     for (unsigned i = 0; i < count; i++) {
         struct model model;
@@ -104,6 +114,7 @@ static void test_random_models(unsigned count)
         sets_agree = sets_agree && is_full_set(text, model.length, full);
         names_agree = names_agree && has_names(text, model.length, names, rules);
         cores_agree = cores_agree && codremif_accepted(cores) && (codremif_count(cores) > 0) == holds;
+        kinds_agree = kinds_agree && has_one_kind_each(text, model.length, full);
         with_core += codremif_count(cores) > 0;
         seen[rules] = 1;
         free(text);
@@ -116,6 +127,7 @@ static void test_random_models(unsigned count)
     check(names_agree, "random models: codremif_rule_name gives each name, and NULL past the last");
     check(cores_agree && with_core > count / 10 && with_core < count - count / 10,
           "random models: the property holds exactly when there is a core");
+    check(kinds_agree, "random models: each rule is in exactly one of MUST, MAY and the irrelevant rules");
 }
 
 /* Of a text that is not accepted nothing is promised but that nothing outside it is read. */

@@ -1,5 +1,4 @@
-//! Tells cargo where libcodremif.a lies: in CODREMIF_LIB_DIR, or where `rt staticlib codremif` writes it. And whether it has
-//! the call that gives its version.
+//! Tells cargo where libcodremif.a lies: in CODREMIF_LIB_DIR, or where `rt staticlib codremif` writes it.
 
 use std::path::{Path, PathBuf};
 
@@ -14,17 +13,8 @@ fn main() {
             library.display()
         );
     }
-    println!("cargo:rustc-check-cfg=cfg(has_version)");
-    if has_name(&library, b"\0codremif_version\0") {
-        println!("cargo:rustc-cfg=has_version");
-    }
     println!("cargo:rustc-link-search=native={}", folder.display());
     println!("cargo:rustc-link-lib=static=codremif");
-}
-
-fn has_name(library: &Path, name: &[u8]) -> bool {
-    let bytes = std::fs::read(library).unwrap_or_else(|error| panic!("{}: {error}", library.display()));
-    bytes.windows(name.len()).any(|window| window == name)
 }
 
 fn library_folder() -> PathBuf {

@@ -1,51 +1,42 @@
--- The arrays that a call lends to the search: the words of each that are used are as many as the marks take, and come back in front of the others.
--- From the laws of repeated lists. Assumes nothing.
+-- The tables that a call lends to the search: the words of each that are used are as many as the marks take, and come back in front of the others.
+-- From the laws of tables of sets. Assumes nothing.
 use Prim.Native.Nat.{ℕ, _+_, _*_, _/_, _^_, _≤_}
-use mathlib.Core.Path.{_≡_, sym, _∙_}
+use mathlib.Core.Path.{_≡_, sym, ap, _∙_}
 use mathlib.Core.Bool.{Bool}
 use mathlib.Core.List.{List, _++_}
 use native.Mathlib.Omega.{arith}
-use lib.ListN.{length, take, replicate, length-append}
+use lib.ListN.{length, take, drop, replicate}
 use lib.Pow.{pow-mono}
-use lib.Seq.{length-take-le, take-at}
-use Rattle.sets.specs.Cores.{isCore, isCut}
-use Rattle.systems.specs.declared.tables.Tables.{Tables}
+use lib.Seq.{length-take-le}
+use Rattle.sets.specs.Lists.{overwritten}
 use Rattle.semantics.specs.Laws.Filled.{repeats}
-use Rattle.cores.specs.Marks.{tableBy}
-use Rattle.cores.specs.Seeds.{Judges, Findable}
-
--- the tables of the cores and the cuts of R rules that h judges
-pub record Found (R : ℕ) (h : ℕ → Bool) (cores cuts : List ℕ) : Type 0 where
-  pub allCores : cores ≡ tableBy R (isCore h)
-  pub allCuts : cuts ≡ tableBy R (isCut R h)
+use Rattle.cores.specs.Marks.{tableBy, Room}
+use Rattle.cores.specs.Laws.Marks.{length-tableBy}
+use Rattle.analysis.specs.Finding.{RoomForSets}
 
 -- an array of n words as the code makes it
 abbrev pub zeros : ℕ → List ℕ
 zeros n = replicate n 0
 
--- arrays of n words, enough for at most `most` rules; so many of the words are lent
-module _ (n most : ℕ) (enough : 2 ^ most ≤ 64 * n) {rules words : ℕ} (few : rules ≤ most) (e : words ≡ (2 ^ rules + 63) / 64) where
-  pub fits : words ≤ n
-  fits = omega (arith, pow-mono few)
+-- arrays of n words have room for the sets of at most `most` rules
+pub array-sets : (n most : ℕ) → 2 ^ most ≤ 64 * n → {rules : ℕ} → rules ≤ most → rules ≤ 16 → RoomForSets rules (zeros n) (zeros n) (zeros n)
+array-sets n most enough {rules} few atMost =
+    let r : Room rules (zeros n) = record { few = atMost; room = omega (arith, pow-mono few, repeats n 0) } in
+    record { inUnknown = r; inCores = r; inCuts = r }
 
-  pub long : words ≡ length (take words (zeros n))
-  long = sym (length-take-le words (zeros n) (omega (arith, repeats n 0, fits)))
+-- the words of a table with room for the sets that are lent on
+module _ {rules words : ℕ} {lent : List ℕ} (r : Room rules lent) (e : words ≡ (2 ^ rules + 63) / 64) where
+  pub fits : words ≤ length lent
+  fits = omega (arith, r .room)
 
-  pub findable : {masks : List ℕ} {t : Tables} → Judges masks t → t .rules ≡ rules
-      → Findable masks t (take words (zeros n)) (take words (zeros n)) (take words (zeros n))
-  findable {masks} {t} j same =
-      let size : length (take words (zeros n)) ≡ (2 ^ t .rules + 63) / 64 = rw same (sym long ∙ e) in
-      record { judges = j; inUnknown = size; inCores = size; inCuts = size }
+  pub long : words ≡ length (take words lent)
+  long = sym (length-take-le words lent fits)
 
--- the words that were lent, once they are back in front of the others
-module _ {words : ℕ} (lent others : List ℕ) (e : length lent ≡ words) where
-  pub back-fits : words ≤ length (lent ++ others)
-  back-fits = omega (arith, length-append lent others)
+  pub size : length (take words lent) ≡ (2 ^ rules + 63) / 64
+  size = sym long ∙ e
 
-  pub back-long : words ≡ length (take words (lent ++ others))
-  back-long = rw (take-at lent others words e) (sym e)
-
-pub found-again : {R : ℕ} {h : ℕ → Bool} {words : ℕ} {cores cuts : List ℕ} (others more : List ℕ) → length cores ≡ words → length cuts ≡ words
-    → cores ≡ tableBy R (isCore h) → cuts ≡ tableBy R (isCut R h) → Found R h (take words (cores ++ others)) (take words (cuts ++ more))
-found-again {R} {h} {words} {cores} {cuts} others more x y e f =
-    record { allCores = take-at cores others words x ∙ e; allCuts = take-at cuts more words y ∙ f }
+-- such words once they are back in front of the others, where they have become the table of the sets that pass a test
+pub back : (rules : ℕ) {words : ℕ} (p : ℕ → Bool) {table : List ℕ} (lent : List ℕ) → words ≡ (2 ^ rules + 63) / 64 → table ≡ tableBy rules p
+    → table ++ drop words lent ≡ overwritten (tableBy rules p) lent
+unfolding overwritten
+back rules p lent e is = rw is (ap (λ (k : ℕ). tableBy rules p ++ drop k lent) (e ∙ sym (length-tableBy rules p)))

@@ -1,11 +1,15 @@
--- What masks and tables that were filled from a text answer is what the model means: the verdicts, the trace of a set, the two lists and MUST.
+-- What masks and tables that were filled from a text answer is what the model means: the verdicts, the trace of a set, MUST, the tables of the
+-- cores and the cuts; and what is read off these.
 -- From the laws of the filled tables (`semantics`) and of lists of judgements that agree (`sets`). Assumes nothing.
 use Prim.Native.Nat.{ℕ, _^_, _<_}
-use mathlib.Core.Path.{_≡_, sym, ap, _∙_}
+use mathlib.Core.Path.{_≡_, ap, ap₂, _∙_}
 use mathlib.Core.List.{List}
 use Rattle.sets.specs.Cores.{isCore, isCut}
-use Rattle.sets.specs.Lists.{listOf, coresOf, cutsOf, mustOf, common}
-use Rattle.sets.specs.Laws.Growth.{listOf-agree, coresOf-agree, cutsOf-agree}
+use mathlib.Core.Bool.{Bool}
+use Rattle.sets.specs.Lists.{listOf, coresOf, cutsOf, mustOf, common, overwritten}
+use Rattle.sets.specs.Kinds.{someOf}
+use Rattle.sets.specs.Laws.Growth.{isCore-agree, isCut-agree, coresOf-agree}
+use Rattle.sets.specs.Laws.Kinds.{some-less-must, full-less-some}
 use Rattle.models.specs.declared.model.Model.{Model}
 use Rattle.models.specs.Written.{described}
 use Rattle.systems.specs.declared.tables.Tables.{Tables}
@@ -18,12 +22,14 @@ use Rattle.models.specs.Laws.Written.{described-count}
 use Rattle.semantics.specs.Laws.Filled.{has-room, same-judge, same-trace, filled-monotone}
 use Rattle.cores.specs.declared.which.WhichList.{WhichList}
 use Rattle.cores.specs.declared.which.WhichList.the-variants.{Cores, Cuts}
-use Rattle.cores.specs.Marks.{marked, Room}
-use Rattle.cores.specs.Laws.Marks.{tableBy-room, tableBy-marks}
+use Rattle.cores.specs.declared.kinds.Kinds.{Kinds}
+use Rattle.cores.specs.Kinds.{kindsBy, kindsOf}
+use Rattle.cores.specs.Marks.{marked, tableBy, Room}
+use Rattle.cores.specs.Laws.Marks.{tableBy-agree, front-room, front-listed}
 use Rattle.cores.specs.Seeds.{Judges}
 use Rattle.cores.specs.Which.{listed}
 use Rattle.analysis.specs.Lists.{tableOf}
-use Rattle.analysis.proofs.Arrays.{Found}
+use Rattle.analysis.specs.Finding.{RoomForSets}
 
 module _ (text : List ℕ) {before : List ℕ} {m : Model} (r : RoomFor m before) {masks : List ℕ} {t : Tables}
     (p : masks ≡ masksOf before (described text m)) (q : t ≡ tablesOf (described text m)) where
@@ -49,23 +55,38 @@ module _ (text : List ℕ) {before : List ℕ} {m : Model} (r : RoomFor m before
       e ∙ ap (λ (R : ℕ). mustOf R (judgeBy masks t)) rules-are
       ∙ ap common (coresOf-agree (m .rules) (judgeBy masks t) (judge (described text m)) same-verdict)
 
-  -- the tables that the cores and the cuts are marked in
-  module _ {cores cuts : List ℕ} (found : Found (t .rules) (judgeBy masks t) cores cuts) where
-    pub room-cores : Room (m .rules) cores
-    room-cores = rw (found .allCores, ← rules-are) (tableBy-room (t .rules) (isCore (judgeBy masks t)) (judges .few))
+  -- the tables of the cores and of the cuts
+  pub cores-are : tableBy (t .rules) (isCore (judgeBy masks t)) ≡ tableBy (m .rules) (isCore (judge (described text m)))
+  cores-are =
+      ap (λ (R : ℕ). tableBy R (isCore (judgeBy masks t))) rules-are
+      ∙ tableBy-agree (m .rules) (isCore (judgeBy masks t)) (isCore (judge (described text m)))
+      (isCore-agree (m .rules) (judgeBy masks t) (judge (described text m)) same-verdict)
 
-    pub room-cuts : Room (m .rules) cuts
-    room-cuts = rw (found .allCuts, ← rules-are) (tableBy-room (t .rules) (isCut (t .rules) (judgeBy masks t)) (judges .few))
+  pub cuts-are : tableBy (t .rules) (isCut (t .rules) (judgeBy masks t)) ≡ tableBy (m .rules) (isCut (m .rules) (judge (described text m)))
+  cuts-are =
+      ap (λ (R : ℕ). tableBy R (isCut R (judgeBy masks t))) rules-are
+      ∙ tableBy-agree (m .rules) (isCut (m .rules) (judgeBy masks t)) (isCut (m .rules) (judge (described text m)))
+      (isCut-agree (m .rules) (judgeBy masks t) (judge (described text m)) same-verdict)
 
-    pub list-is : (which : WhichList) → listOf (m .rules) (marked (tableOf which cores cuts)) ≡ listed which (m .rules) (judge (described text m))
-    unfolding tableOf listed coresOf cutsOf
-    list-is Cores =
-        ap (λ (R : ℕ). listOf R (marked cores)) (sym rules-are)
-        ∙ listOf-agree (t .rules) (marked cores) (isCore (judgeBy masks t)) (rw (found .allCores) (tableBy-marks (t .rules) (isCore (judgeBy masks t))))
-        ∙ ap (λ (R : ℕ). coresOf R (judgeBy masks t)) rules-are
-        ∙ coresOf-agree (m .rules) (judgeBy masks t) (judge (described text m)) same-verdict
-    list-is Cuts =
-        ap (λ (R : ℕ). listOf R (marked cuts)) (sym rules-are)
-        ∙ listOf-agree (t .rules) (marked cuts) (isCut (t .rules) (judgeBy masks t)) (rw (found .allCuts) (tableBy-marks (t .rules) (isCut (t .rules) (judgeBy masks t))))
-        ∙ ap (λ (R : ℕ). cutsOf R (judgeBy masks t)) rules-are
-        ∙ cutsOf-agree (m .rules) (judgeBy masks t) (judge (described text m)) same-verdict
+kind : (must may irrelevant : ℕ) → Kinds
+kind must may irrelevant = record { must = must; may = may; irrelevant = irrelevant }
+
+-- what is read off tables of the sets that h judges, over the front of lent words
+module _ {R : ℕ} (h : ℕ → Bool) {unknown lentCores lentCuts cores cuts : List ℕ} (r : RoomForSets R unknown lentCores lentCuts)
+    (p : cores ≡ overwritten (tableBy R (isCore h)) lentCores) (q : cuts ≡ overwritten (tableBy R (isCut R h)) lentCuts) where
+  pub room-cores : Room R cores
+  room-cores = rw p (front-room R (isCore h) lentCores (r .inCores))
+
+  pub room-cuts : Room R cuts
+  room-cuts = rw q (front-room R (isCut R h) lentCuts (r .inCuts))
+
+  pub list-is : (which : WhichList) → listOf R (marked (tableOf which cores cuts)) ≡ listed which R h
+  unfolding tableOf listed coresOf cutsOf
+  list-is Cores = ap (λ l. listOf R (marked l)) p ∙ front-listed R (isCore h) lentCores
+  list-is Cuts = ap (λ l. listOf R (marked l)) q ∙ front-listed R (isCut R h) lentCuts
+
+  pub kinds-are : {k : Kinds} → k ≡ kindsBy R (listOf R (marked cores)) → k ≡ kindsOf R h
+  unfolding kind kindsBy kindsOf tableOf listed mustOf someOf
+  kinds-are e =
+      e ∙ ap (kindsBy R) (list-is Cores)
+      ∙ ap₂ (kind (mustOf R h)) (some-less-must R h) (full-less-some R h)

@@ -50,32 +50,18 @@ fn list_with(text: &[u8], m: Model, which: WhichList, masks: &mut [u16], lent: &
     ensures { λ r. ⌜ r ≡ listedAnswer (listed which (m .rules) (judge (described (now (text .entry)) m))) (now (lent .entry)) ⌝ }
     ensures { λ _. ⌜ now (lent .exit) ≡ listedBytes (listed which (m .rules) (judge (described (now (text .entry)) m))) (now (lent .entry)) ⌝ }
 {
-    let t = semantics::tables::fill(text, m, masks);
-    let words = cores::marks::word_count(m.rules);
     if m.rules <= 8 {
         let mut unknown = [0u64; 4];
         let mut cores = [0u64; 4];
         let mut cuts = [0u64; 4];
-        cores::seeds::find(
-            masks,
-            t,
-            &mut unknown[..words],
-            &mut cores[..words],
-            &mut cuts[..words],
-        );
-        write_one(which, &cores[..words], &cuts[..words], m.rules, lent)
+        crate::finding::find(text, m, masks, &mut unknown, &mut cores, &mut cuts);
+        write_one(which, &cores, &cuts, m.rules, lent)
     } else {
         let mut unknown = [0u64; 1024];
         let mut cores = [0u64; 1024];
         let mut cuts = [0u64; 1024];
-        cores::seeds::find(
-            masks,
-            t,
-            &mut unknown[..words],
-            &mut cores[..words],
-            &mut cuts[..words],
-        );
-        write_one(which, &cores[..words], &cuts[..words], m.rules, lent)
+        crate::finding::find(text, m, masks, &mut unknown, &mut cores, &mut cuts);
+        write_one(which, &cores, &cuts, m.rules, lent)
     }
 }
 

@@ -20,7 +20,8 @@ use Rattle.systems.specs.Traced.{traceArray, traceWith}
 use Rattle.systems.specs.Laws.Traced.{trace-holds, trace-states}
 use Rattle.codremif.specs.declared.answers.JudgeAnswer.{JudgeAnswer}
 use Rattle.codremif.specs.declared.answers.JudgeAnswer.the-variants.{Refused as JudgeRefused, Holds, Broken}
-use Rattle.codremif.specs.Answers.{IsRead, rulesIn, systemIn, traceIn, textOutcome, judgeOutcome, after, verdictOf, judgeAnswer, judgeBytes}
+use Rattle.codremif.specs.Answers.{rulesIn, systemIn, traceIn, textOutcome, judgeOutcome, after, verdictOf, judgeAnswer, judgeBytes}
+use Rattle.codremif.specs.AsRead.{IsRead}
 use Rattle.codremif.specs.Laws.Answers.{read-model, rules-read, given-accepted, given-refused, judge-numbers, verdict-held, verdict-broken}
 use Rattle.codremif.specs.Lent.{Front}
 use Rattle.codremif.specs.Laws.Host.{trace-le}

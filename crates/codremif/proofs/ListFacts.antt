@@ -1,4 +1,4 @@
--- What finding the lists and MUST of a text that is read gives is what the calls answer and write.
+-- What finding the lists and the kinds of rules of a text that is read gives is what the calls answer and write.
 -- From the places of the text's model telling it, and the laws of the answers.
 use Prim.Native.Nat.{ℕ, _*_}
 use mathlib.Core.Path.{_≡_, refl, sym, ap, ap₂, _∙_}
@@ -7,21 +7,24 @@ use mathlib.Core.List.{List}
 use borrow.Author.Tests.{ltb-true, ltb-false}
 use lib.Dec.{ltb}
 use lib.ListN.{length}
-use Rattle.sets.specs.Lists.{mustOf, bytesOf, overwritten}
+use Rattle.sets.specs.Lists.{bytesOf, overwritten}
 use Rattle.models.specs.declared.model.Model.{Model}
 use Rattle.models.specs.declared.model.Outcome.the-variants.{Refused}
 use Rattle.models.specs.Written.{described}
 use Rattle.semantics.specs.Meaning.{judge}
 use Rattle.cores.specs.declared.which.WhichList.{WhichList}
 use Rattle.cores.specs.Which.{listed}
+use Rattle.cores.specs.declared.kinds.Kind.{Kind}
+use Rattle.cores.specs.Kinds.{ofKind}
 use Rattle.analysis.specs.declared.lists.Listed.the-variants.{Count as Found, TooShort}
 use Rattle.analysis.specs.declared.lists.Listed.{Listed}
 use Rattle.analysis.specs.Few.{Few}
 use Rattle.analysis.specs.Lists.{listedAnswer, listedBytes}
 use Rattle.codremif.specs.declared.answers.ListAnswer.{ListAnswer}
 use Rattle.codremif.specs.declared.answers.ListAnswer.the-variants.{Refused as ListRefused}
-use Rattle.codremif.specs.declared.answers.MustAnswer.the-variants.{Refused as MustRefused, Set}
-use Rattle.codremif.specs.Answers.{IsRead, textOutcome, judgeIn, listIn, mustIn, ofListed, after, listAnswer, listBytes, mustAnswer}
+use Rattle.codremif.specs.declared.answers.SetAnswer.the-variants.{Refused as SetRefused, Set}
+use Rattle.codremif.specs.Answers.{textOutcome, judgeIn, listIn, kindIn, after, listAnswer, listBytes, kindAnswer}
+use Rattle.codremif.specs.AsRead.{IsRead, ofListed}
 use Rattle.codremif.specs.Laws.Answers.{read-model, vars-le, rules-le, rules-read, given-refused, list-numbers, list-enough}
 use Rattle.codremif.specs.Laws.Answers as Law
 
@@ -37,9 +40,9 @@ module _ {text : List ℕ} {m : Model} (r : IsRead text m) where
   unfolding listIn judgeIn
   list-told which = ap₂ (λ (R : ℕ) D. listed which R (judge D)) (rules-read r) (read-model r)
 
-  pub must-told : mustOf (m .rules) (judge (described text m)) ≡ mustIn text
-  unfolding mustIn judgeIn
-  must-told = ap₂ (λ (R : ℕ) D. mustOf R (judge D)) (rules-read r) (read-model r)
+  pub kind-told : (kind : Kind) → ofKind kind (m .rules) (judge (described text m)) ≡ kindIn kind text
+  unfolding kindIn judgeIn
+  kind-told kind = ap₂ (λ (R : ℕ) D. ofKind kind R (judge D)) (rules-read r) (read-model r)
 
   list-given : (which : WhichList) (lent : List ℕ)
       → Lists which text lent (ofListed (listedAnswer (listIn which text) lent)) (listedBytes (listIn which text) lent)
@@ -64,8 +67,8 @@ module _ {text : List ℕ} {m : Model} (r : IsRead text m) where
         found .1 ∙ ap (λ l. listedBytes l lent) (list-told which) ∙ g .1,
       )
 
-  pub must-found : (S : ℕ) → S ≡ mustOf (m .rules) (judge (described text m)) → Set S ≡ mustAnswer text
-  must-found S e = ap Set (e ∙ must-told) ∙ sym (Law.must-given text (r .outcome))
+  pub kind-found : (kind : Kind) (S : ℕ) → S ≡ kindIn kind text → Set S ≡ kindAnswer kind text
+  kind-found kind S e = ap Set e ∙ sym (Law.kind-given text (r .outcome) kind)
 
 -- a text that is refused
 pub list-refused : (which : WhichList) (text lent : List ℕ) {number line : ℕ} → textOutcome text ≡ Refused number line → Lists which text lent (ListRefused number line) lent
@@ -74,6 +77,6 @@ list-refused which text lent e =
     let o = list-numbers which text lent .byText _ _ e in
     (sym (given-refused ListRefused _ o), sym (given-refused _ _ o))
 
-pub must-refused : (text : List ℕ) {number line : ℕ} → textOutcome text ≡ Refused number line → MustRefused number line ≡ mustAnswer text
-unfolding mustAnswer
-must-refused text e = sym (given-refused MustRefused _ e)
+pub kind-refused : (kind : Kind) (text : List ℕ) {number line : ℕ} → textOutcome text ≡ Refused number line → SetRefused number line ≡ kindAnswer kind text
+unfolding kindAnswer
+kind-refused kind text e = sym (given-refused SetRefused _ e)

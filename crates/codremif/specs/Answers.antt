@@ -7,8 +7,7 @@ use mathlib.Core.Bool.{Bool, true, false, cond}
 use mathlib.Core.List.{List}
 use lib.Dec.{leb, ltb}
 use lib.ListN.{length}
-use Rattle.sets.specs.Lists.{mustOf, bytesOf, overwritten}
-use Rattle.models.specs.declared.model.Model.{Model}
+use Rattle.sets.specs.Lists.{bytesOf, overwritten}
 use Rattle.models.specs.declared.model.Outcome.{Outcome}
 use Rattle.models.specs.declared.model.Outcome.the-variants.{Accepted, Refused}
 use Rattle.models.specs.Reading.{readModel}
@@ -18,14 +17,14 @@ use Rattle.systems.specs.Verdict.{holds, traceOf}
 use Rattle.semantics.specs.Meaning.{systemOf, judge}
 use Rattle.cores.specs.declared.which.WhichList.{WhichList}
 use Rattle.cores.specs.Which.{listed}
-use Rattle.analysis.specs.declared.lists.Listed.{Listed}
-use Rattle.analysis.specs.declared.lists.Listed.the-variants.{Count as Found, TooShort}
+use Rattle.cores.specs.declared.kinds.Kind.{Kind}
+use Rattle.cores.specs.Kinds.{ofKind}
 use Rattle.codremif.specs.declared.answers.JudgeAnswer.{JudgeAnswer}
 use Rattle.codremif.specs.declared.answers.JudgeAnswer.the-variants.{Refused as JudgeRefused, Holds, Broken}
 use Rattle.codremif.specs.declared.answers.ListAnswer.{ListAnswer}
 use Rattle.codremif.specs.declared.answers.ListAnswer.the-variants.{Refused as ListRefused, Count}
-use Rattle.codremif.specs.declared.answers.MustAnswer.{MustAnswer}
-use Rattle.codremif.specs.declared.answers.MustAnswer.the-variants.{Refused as MustRefused, Set}
+use Rattle.codremif.specs.declared.answers.SetAnswer.{SetAnswer}
+use Rattle.codremif.specs.declared.answers.SetAnswer.the-variants.{Refused as SetRefused, Set}
 
 -- ---- what a text means
 
@@ -48,14 +47,14 @@ unfoldable pub traceIn : List ℕ → ℕ → List ℕ
 unfolding systemIn traceOf
 traceIn text S = traceOf (systemIn text S)
 
--- The core list or the cut list, and MUST.
+-- The core list or the cut list; and MUST, MAY or the irrelevant rules.
 unfoldable pub listIn : WhichList → List ℕ → List ℕ
 unfolding listed rulesIn judgeIn
 listIn which text = listed which (rulesIn text) (judgeIn text)
 
-unfoldable pub mustIn : List ℕ → ℕ
-unfolding mustOf rulesIn judgeIn
-mustIn text = mustOf (rulesIn text) (judgeIn text)
+unfoldable pub kindIn : Kind → List ℕ → ℕ
+unfolding ofKind rulesIn judgeIn
+kindIn kind text = ofKind kind (rulesIn text) (judgeIn text)
 
 -- ---- the first number that fits
 
@@ -90,7 +89,7 @@ unfoldable pub judgeOutcome : List ℕ → ℕ → List ℕ → Outcome
 unfolding _orElse_ textOutcome setOutcome lengthOutcome traceIn
 judgeOutcome text S lent = textOutcome text orElse setOutcome text S orElse lengthOutcome (traceIn text S) lent
 
--- Listing sets needs two bytes for each. (MUST needs none: its outcome is the text's.)
+-- Listing sets needs two bytes for each. (The rules of a kind need none: that call's outcome is the text's.)
 unfoldable pub listOutcome : WhichList → List ℕ → List ℕ → Outcome
 unfolding _orElse_ textOutcome lengthOutcome bytesOf listIn
 listOutcome which text lent = textOutcome text orElse lengthOutcome (bytesOf (listIn which text)) lent
@@ -130,29 +129,12 @@ unfoldable pub listBytes : WhichList → List ℕ → List ℕ → List ℕ
 unfolding after listOutcome listIn bytesOf
 listBytes which text lent = after (listOutcome which text lent) (bytesOf (listIn which text)) lent
 
--- What finding the list of an accepted text says, as an answer: too short is number 11.
-unfoldable pub ofListed : Listed → ListAnswer
-ofListed (Found n) = Count n
-ofListed TooShort = ListRefused 11 0
-
--- Give MUST.
-unfoldable pub mustAnswer : List ℕ → MustAnswer
-unfolding given textOutcome mustIn
-mustAnswer text = given MustRefused (textOutcome text) (Set (mustIn text))
+-- Give MUST, MAY or the irrelevant rules.
+unfoldable pub kindAnswer : Kind → List ℕ → SetAnswer
+unfolding given textOutcome kindIn
+kindAnswer kind text = given SetRefused (textOutcome text) (Set (kindIn kind text))
 
 -- A call gave the answer, and wrote the new bytes over the lent ones and nothing else.
 pub record Gives {A : Type 0} (answer : A) (new lent : List ℕ) (answered : A) (bytes : List ℕ) : Type 0 where
   pub says : answered ≡ answer
   pub writes : bytes ≡ overwritten new lent
-
--- ---- a text that has been read
-
--- The places where the parts of the text's model stand.
-unfoldable pub placesIn : List ℕ → Model
-unfolding readModel
-placesIn text = readModel text .model
-
--- The text is accepted, and the parts of its model stand at the places m.
-pub record IsRead (text : List ℕ) (m : Model) : Type 0 where
-  pub outcome : textOutcome text ≡ Accepted
-  pub model : m ≡ placesIn text

@@ -9,11 +9,12 @@ use lib.ListN.{length}
 use Rattle.models.specs.Refusals.{FitsAt, ComesBefore}
 use Rattle.systems.specs.System.{Trace}
 use Rattle.cores.specs.declared.which.WhichList.{WhichList}
+use Rattle.cores.specs.declared.kinds.Kind.{Kind}
 use Rattle.codremif.specs.declared.answers.JudgeAnswer.the-variants.{Refused as JudgeRefused}
 use Rattle.codremif.specs.declared.answers.ListAnswer.the-variants.{Refused as ListRefused}
-use Rattle.codremif.specs.declared.answers.MustAnswer.the-variants.{Refused as MustRefused}
-use Rattle.codremif.specs.Answers.{rulesIn, systemIn, listIn, judgeAnswer, judgeBytes, listAnswer, listBytes, mustAnswer}
-use Rattle.codremif.specs.Packing.{Parts, refused, judgeParts, listParts, mustParts, packed}
+use Rattle.codremif.specs.declared.answers.SetAnswer.the-variants.{Refused as SetRefused}
+use Rattle.codremif.specs.Answers.{rulesIn, systemIn, listIn, judgeAnswer, judgeBytes, listAnswer, listBytes, kindAnswer}
+use Rattle.codremif.specs.Packing.{Parts, refused, judgeParts, listParts, setParts, packed}
 
 -- ---- the numbers of each call
 
@@ -30,7 +31,7 @@ pub data ListFits (which : WhichList) (text lent : List ℕ) : (number line : �
   list-text : {number line : ℕ} → FitsAt text number line → ListFits which text lent number line
   list-longer : length lent < 2 * length (listIn which text) → ListFits which text lent 11 0
 
--- Giving MUST: 1 to 9, as `FitsAt` has them.
+-- Giving MUST, MAY or the irrelevant rules: 1 to 9, as `FitsAt` has them.
 
 -- ---- the order
 
@@ -61,7 +62,7 @@ pub record Demand1 (text : List ℕ) : Type 0 where
   pub judge : (S : ℕ) (lent : List ℕ) → Refusals (JudgeFits text S lent) JudgeRefused judgeParts lent (judgeAnswer text S lent) (judgeBytes text S lent)
   pub list : (which : WhichList) (lent : List ℕ)
       → Refusals (ListFits which text lent) ListRefused listParts lent (listAnswer which text lent) (listBytes which text lent)
-  pub must : Refusals (FitsAt text) MustRefused mustParts [] (mustAnswer text) []
+  pub kind : (kind : Kind) → Refusals (FitsAt text) SetRefused setParts [] (kindAnswer kind text) []
 
 -- ---- the same of the exported calls
 
@@ -76,4 +77,4 @@ pub record HostDemand1 (text : List ℕ) : Type 0 where
   pub judge : (S : ℕ) (lent : List ℕ) → HostRefusals (JudgeFits text S lent) lent (packed (judgeParts (judgeAnswer text S lent))) (judgeBytes text S lent)
   pub list : (which : WhichList) (lent : List ℕ)
       → HostRefusals (ListFits which text lent) lent (packed (listParts (listAnswer which text lent))) (listBytes which text lent)
-  pub must : HostRefusals (FitsAt text) [] (packed (mustParts (mustAnswer text))) []
+  pub kind : (kind : Kind) → HostRefusals (FitsAt text) [] (packed (setParts (kindAnswer kind text))) []

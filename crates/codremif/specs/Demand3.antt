@@ -11,15 +11,16 @@ use Rattle.sets.specs.Lists.{bytesOf, overwritten}
 use Rattle.sets.specs.Demand3.{Demand3}
 use Rattle.systems.specs.System.{Breach}
 use Rattle.cores.specs.declared.which.WhichList.the-variants.{Cores, Cuts}
+use Rattle.cores.specs.declared.kinds.Kind.the-variants.{Must}
 use Rattle.codremif.specs.declared.answers.JudgeAnswer.{JudgeAnswer}
 use Rattle.codremif.specs.declared.answers.JudgeAnswer.the-variants.{Holds}
 use Rattle.codremif.specs.declared.answers.ListAnswer.{ListAnswer}
 use Rattle.codremif.specs.declared.answers.ListAnswer.the-variants.{Refused as ListRefused, Count}
-use Rattle.codremif.specs.declared.answers.MustAnswer.{MustAnswer}
-use Rattle.codremif.specs.declared.answers.MustAnswer.the-variants.{Set}
+use Rattle.codremif.specs.declared.answers.SetAnswer.{SetAnswer}
+use Rattle.codremif.specs.declared.answers.SetAnswer.the-variants.{Set}
 use Rattle.codremif.specs.declared.together.Together.{Together}
-use Rattle.codremif.specs.Answers.{rulesIn, systemIn, judgeAnswer, listAnswer, listBytes, mustAnswer}
-use Rattle.codremif.specs.Packing.{judgeParts, listParts, mustParts, packed}
+use Rattle.codremif.specs.Answers.{rulesIn, systemIn, judgeAnswer, listAnswer, listBytes, kindAnswer}
+use Rattle.codremif.specs.Packing.{judgeParts, listParts, setParts, packed}
 
 -- ---- how calls tell their answers
 
@@ -33,7 +34,7 @@ pub record Telling (J L M : Type 0) : Type 0 where
   pub set : ℕ → M
 
 -- The calls in Rattle.
-unfoldable pub inRattle : Telling JudgeAnswer ListAnswer MustAnswer
+unfoldable pub inRattle : Telling JudgeAnswer ListAnswer SetAnswer
 unfolding judgeAnswer
 inRattle = record { judge = judgeAnswer; holds = Holds; count = Count; short = ListRefused 11 0; set = Set }
 
@@ -88,15 +89,15 @@ pub record TextDemand3 {J L M : Type 0} (w : Telling J L M) (text : List ℕ) (a
 -- ---- what the calls give
 
 -- What the calls for the cores, the cuts and MUST give, accepted or refused, is what their definitions say.
-pub record AsCalled (text : List ℕ) (a : Asked ListAnswer MustAnswer) : Type 0 where
+pub record AsCalled (text : List ℕ) (a : Asked ListAnswer SetAnswer) : Type 0 where
   pub cores : a .coresAnswer ≡ listAnswer Cores text (a .coresLent)
   pub coresWritten : a .coresBytes ≡ listBytes Cores text (a .coresLent)
   pub cuts : a .cutsAnswer ≡ listAnswer Cuts text (a .cutsLent)
   pub cutsWritten : a .cutsBytes ≡ listBytes Cuts text (a .cutsLent)
-  pub must : a .mustAnswer ≡ mustAnswer text
+  pub must : a .mustAnswer ≡ kindAnswer Must text
 
 -- The same as a record of what `codremif::together::ask_all` lent and gave.
-unfoldable pub asked : Together → (coresLent coresBytes cutsLent cutsBytes : List ℕ) → Asked ListAnswer MustAnswer
+unfoldable pub asked : Together → (coresLent coresBytes cutsLent cutsBytes : List ℕ) → Asked ListAnswer SetAnswer
 asked r coresLent coresBytes cutsLent cutsBytes = record {
   coresLent = coresLent;
   coresAnswer = r .cores;
@@ -109,7 +110,7 @@ asked r coresLent coresBytes cutsLent cutsBytes = record {
 
 -- What codremif_cores, codremif_cuts and codremif_must give for a text and these lent bytes.
 unfoldable pub hostAsked : (text coresLent cutsLent : List ℕ) → Asked ℕ ℕ
-unfolding listAnswer listBytes mustAnswer listParts mustParts packed
+unfolding listAnswer listBytes kindAnswer listParts setParts packed
 hostAsked text coresLent cutsLent = record {
   coresLent = coresLent;
   coresAnswer = packed (listParts (listAnswer Cores text coresLent));
@@ -117,5 +118,5 @@ hostAsked text coresLent cutsLent = record {
   cutsLent = cutsLent;
   cutsAnswer = packed (listParts (listAnswer Cuts text cutsLent));
   cutsBytes = listBytes Cuts text cutsLent;
-  mustAnswer = packed (mustParts (mustAnswer text));
+  mustAnswer = packed (setParts (kindAnswer Must text));
 }

@@ -1,5 +1,5 @@
 -- The demands of the mission, as theorems about what exactly the calls of this crate answer and write. Nothing is assumed.
--- To believe them, read these files below crates/ in this order (lines without imports and blank lines, 1,038 in all). What is proved of their
+-- To believe them, read these files below crates/ in this order (lines without imports and blank lines, 1,164 in all). What is proved of their
 -- definitions stands in `Laws` and need not be read, and neither need the functions that compute (the reading of a text, the verdict, the lists):
 -- the theorems say what they give.
 --   a number as a set of rules or of letters           sets/specs/Bit                8
@@ -7,8 +7,8 @@
 --   a number in base ten                               lines/specs/Decimal          10
 --   bytes, and those of a name                         lines/specs/Bytes            47
 --   a legal rule and its line                          lines/specs/Written          40
---   a model, when it is legal, its written form        models/specs/Written         53
---   accepted texts are exactly these                   models/specs/Accepted        33
+--   a model, when it is legal, its written form        models/specs/Written         57
+--   accepted texts are exactly these                   models/specs/Accepted        34
 --   when a text is refused: the numbers 1 to 9         models/specs/Refusals       106
 --   the reading answers with the first that fits       models/specs/Refused         29
 --   runs, reached, holds, the trace                    systems/specs/System         51
@@ -17,37 +17,43 @@
 --   cores and cuts of any judgement                    sets/specs/Cores             33
 --   the bytes of a list, and lent bytes                sets/specs/Lists             53
 --   demand 3 for any judgement                         sets/specs/Demand3           49
+--   MUST, MAY and the irrelevant rules                 sets/specs/Kinds             30
+--   what a set keeps of a list                         sets/specs/Kept               7
+--   a model that is changed in its rules               models/specs/Changed         13
 --   which list is meant                                cores/specs/Which             7
---   what each call answers and writes                  codremif/specs/Answers      104
+--   which kind of rules is meant                       cores/specs/Kinds            16
+--   what each call answers and writes                  codremif/specs/Answers       91
 --   an answer as one 64-bit number                     codremif/specs/Packing       46
 --   demand 1 for a text                                codremif/specs/Demand1       53
 --   demand 2 for a text                                codremif/specs/Demand2       16
 --   demand 3 for a text                                codremif/specs/Demand3       89
+--   rules that nobody relies on, for a text            codremif/specs/Relied        68
 --   the starred examples                               codremif/specs/Examples     112
 use Prim.Native.Nat.{ℕ, _^_, _<_}
-use mathlib.Core.Path.{_≡_, sym, ap}
+use mathlib.Core.Path.{_≡_, ap}
 use mathlib.Core.List.{List, List·Memᴰ}
 use Rattle.models.specs.declared.model.Outcome.the-variants.{Accepted}
-use Rattle.models.specs.Reading.{readModel}
-use Rattle.models.specs.Written.{Described, Legal, writtenModel, modelIn}
-use Rattle.models.specs.Laws.Written.{found-is-described, written-is-found}
+use Rattle.models.specs.Written.{Described, Legal, writtenModel}
+use Rattle.models.specs.Accepted.{told-back}
 use Rattle.semantics.specs.Meaning.{systemOf}
 use Rattle.codremif.specs.declared.answers.ListAnswer.{ListAnswer}
-use Rattle.codremif.specs.declared.answers.MustAnswer.{MustAnswer}
+use Rattle.codremif.specs.declared.answers.SetAnswer.{SetAnswer}
 use Rattle.codremif.specs.Answers.{rulesIn, systemIn, textOutcome}
 use Rattle.codremif.specs.Demand1.{Demand1, HostDemand1}
 use Rattle.codremif.specs.Demand2.{Demand2}
 use Rattle.codremif.specs.Demand3.{inRattle, forHosts, Asked, TextDemand3, AsCalled, hostAsked}
 use Rattle.codremif.specs.Examples.{Case, table, Answered}
+use Rattle.codremif.specs.Relied.{Relied}
 use Rattle.codremif.specs.Laws.Demand1.{calls-meet-demand1, hosts-meet-demand1}
 use Rattle.codremif.specs.Laws.Demand2.{judging-meets-demand2}
 use Rattle.codremif.specs.Laws.Examples.{table-answered}
 use Rattle.codremif.specs.Laws.Demand3.{calls-meet-demand3, hosts-meet-demand3}
+use Rattle.codremif.specs.Laws.Relied.{relied}
 
 -- A text that is written from a legal model means what the model means: the runs of each set of rules are the model's.
 pub meaning : (M : Described) → Legal M → (S : ℕ) → systemIn (writtenModel M) S ≡ systemOf M S
-unfolding systemIn modelIn
-meaning M l S = ap (λ D. systemOf D S) (sym (found-is-described (writtenModel M) M (readModel (writtenModel M)) (written-is-found M l)))
+unfolding systemIn
+meaning M l S = ap (λ D. systemOf D S) (told-back M l)
 
 -- Demand 1: for every text, every call, every set and all lent bytes.
 pub demand1 : (text : List ℕ) → Demand1 text
@@ -62,7 +68,7 @@ pub demand2 : (text : List ℕ) → textOutcome text ≡ Accepted → (S : ℕ) 
 demand2 = judging-meets-demand2
 
 -- Demand 3: for every accepted text, of whatever the three calls were lent and gave. It is the promise of `codremif::together::ask_all`.
-pub demand3 : (text : List ℕ) → textOutcome text ≡ Accepted → {a : Asked ListAnswer MustAnswer} → AsCalled text a → TextDemand3 inRattle text a
+pub demand3 : (text : List ℕ) → textOutcome text ≡ Accepted → {a : Asked ListAnswer SetAnswer} → AsCalled text a → TextDemand3 inRattle text a
 demand3 = calls-meet-demand3
 
 -- The same of the exported calls, by their 64-bit answers and their lent bytes.
@@ -72,3 +78,8 @@ demand3-hosts = hosts-meet-demand3
 -- The starred examples of document 01: for each case of the table the calls give what it says.
 pub examples : (c : Case) → List·Memᴰ c table → Answered c
 examples = table-answered
+
+-- Rules nobody relies on: for every accepted text, what the calls for MUST, MAY and the irrelevant rules answer, and that the irrelevant rules can be
+-- left out and a rule outside MUST replaced.
+pub rules-nobody-relies-on : (text : List ℕ) → textOutcome text ≡ Accepted → Relied text
+rules-nobody-relies-on = relied

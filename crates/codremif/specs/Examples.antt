@@ -11,8 +11,9 @@ use Rattle.cores.specs.declared.which.WhichList.the-variants.{Cores, Cuts}
 use Rattle.codremif.specs.declared.answers.JudgeAnswer.{JudgeAnswer}
 use Rattle.codremif.specs.declared.answers.JudgeAnswer.the-variants.{Holds, Broken}
 use Rattle.codremif.specs.declared.answers.ListAnswer.the-variants.{Count}
-use Rattle.codremif.specs.declared.answers.MustAnswer.the-variants.{Set}
-use Rattle.codremif.specs.Answers.{Gives, judgeAnswer, judgeBytes, listAnswer, listBytes, mustAnswer}
+use Rattle.cores.specs.declared.kinds.Kind.the-variants.{Must}
+use Rattle.codremif.specs.declared.answers.SetAnswer.the-variants.{Set}
+use Rattle.codremif.specs.Answers.{Gives, judgeAnswer, judgeBytes, listAnswer, listBytes, kindAnswer}
 
 -- ---- the form of a case
 
@@ -133,4 +134,4 @@ pub record Answered (c : Case) : Type 0 where
       → Gives (verdictFor (j .trace)) (j .trace) lent (judgeAnswer (c .text) (j .set) lent) (judgeBytes (c .text) (j .set) lent)
   pub lists : (which : WhichList) (lent : List ℕ) → 2 * length (expectedList which c) ≤ length lent
       → Gives (Count (length (expectedList which c))) (bytesOf (expectedList which c)) lent (listAnswer which (c .text) lent) (listBytes which (c .text) lent)
-  pub must : mustAnswer (c .text) ≡ Set (c .must)
+  pub must : kindAnswer Must (c .text) ≡ Set (c .must)

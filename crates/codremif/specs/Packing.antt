@@ -7,8 +7,8 @@ use Rattle.codremif.specs.declared.answers.JudgeAnswer.{JudgeAnswer}
 use Rattle.codremif.specs.declared.answers.JudgeAnswer.the-variants.{Refused as JudgeRefused, Holds, Broken}
 use Rattle.codremif.specs.declared.answers.ListAnswer.{ListAnswer}
 use Rattle.codremif.specs.declared.answers.ListAnswer.the-variants.{Refused as ListRefused, Count}
-use Rattle.codremif.specs.declared.answers.MustAnswer.{MustAnswer}
-use Rattle.codremif.specs.declared.answers.MustAnswer.the-variants.{Refused as MustRefused, Set}
+use Rattle.codremif.specs.declared.answers.SetAnswer.{SetAnswer}
+use Rattle.codremif.specs.declared.answers.SetAnswer.the-variants.{Refused as SetRefused, Set}
 
 -- `amount` is the trace's length, the number of sets, or the set; `holds` is the verdict.
 pub record Parts : Type 0 where
@@ -36,10 +36,10 @@ unfolding accepted refused
 listParts (ListRefused number line) = refused number line
 listParts (Count sets) = accepted sets false
 
-unfoldable pub mustParts : MustAnswer → Parts
+unfoldable pub setParts : SetAnswer → Parts
 unfolding accepted refused
-mustParts (MustRefused number line) = refused number line
-mustParts (Set S) = accepted S false
+setParts (SetRefused number line) = refused number line
+setParts (Set S) = accepted S false
 
 -- The number, plus 256 times the line, plus 65,536 times the length, count or set, plus 2^40 for a verdict that holds.
 unfoldable pub packed : Parts → ℕ

@@ -13,8 +13,8 @@ pub enum ListAnswer {
     Count(usize),
 }
 
-// Of MUST: the set of these rules.
-pub enum MustAnswer {
+// Of MUST, MAY or the irrelevant rules: the set of these rules.
+pub enum SetAnswer {
     Refused(u8, usize),
     Set(u16),
 }

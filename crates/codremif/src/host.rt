@@ -1,8 +1,10 @@
 // The calls for a C host: numbers and byte slices only. A slice is a pointer and a length to the host.
 ghost use mathlib.Core.Path.{_≡_};
 ghost use Rattle.cores.specs.declared.which.WhichList.the-variants.{Cores, Cuts};
-ghost use Rattle.codremif.specs.Answers.{judgeAnswer, judgeBytes, listAnswer, listBytes, mustAnswer};
-ghost use Rattle.codremif.specs.Packing.{judgeParts, listParts, mustParts, packed, versionNumber};
+ghost use Rattle.cores.specs.declared.kinds.Kind.the-variants.{Must, May, Irrelevant};
+ghost use Rattle.codremif.specs.Answers.{judgeAnswer, judgeBytes, listAnswer, listBytes, kindAnswer};
+ghost use Rattle.codremif.specs.Packing.{judgeParts, listParts, setParts, packed, versionNumber};
+use cores::kinds::Kind;
 use cores::which::WhichList;
 
 #[no_mangle]
@@ -31,15 +33,29 @@ pub extern "C" fn codremif_cuts(text: &[u8], sets: &mut [u8]) -> u64
 
 #[no_mangle]
 pub extern "C" fn codremif_must(text: &[u8]) -> u64
-    ensures { λ r. ⌜ r ≡ packed (mustParts (mustAnswer (now (text .entry)))) ⌝ }
+    ensures { λ r. ⌜ r ≡ packed (setParts (kindAnswer Must (now (text .entry)))) ⌝ }
 {
-    crate::packing::pack_must(crate::must::give_must(text))
+    crate::packing::pack_set(crate::kinds::give_must(text))
+}
+
+#[no_mangle]
+pub extern "C" fn codremif_may(text: &[u8]) -> u64
+    ensures { λ r. ⌜ r ≡ packed (setParts (kindAnswer May (now (text .entry)))) ⌝ }
+{
+    crate::packing::pack_set(crate::kinds::give(text, Kind::May))
+}
+
+#[no_mangle]
+pub extern "C" fn codremif_irr(text: &[u8]) -> u64
+    ensures { λ r. ⌜ r ≡ packed (setParts (kindAnswer Irrelevant (now (text .entry)))) ⌝ }
+{
+    crate::packing::pack_set(crate::kinds::give(text, Kind::Irrelevant))
 }
 
 // Which version of the part this is, as CODREMIF_VERSION of the header says it.
 #[no_mangle]
 pub extern "C" fn codremif_version() -> u64
-    ensures { λ r. ⌜ r ≡ versionNumber 1 0 0 ⌝ }
+    ensures { λ r. ⌜ r ≡ versionNumber 1 1 0 ⌝ }
 {
-    1000000
+    1001000
 }

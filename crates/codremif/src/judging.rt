@@ -2,7 +2,8 @@
 ghost use mathlib.Core.Path.{_≡_};
 ghost use lib.ListN.{take};
 ghost use Rattle.sets.specs.Lists.{overwritten};
-ghost use Rattle.codremif.specs.Answers.{IsRead, judgeAnswer, judgeBytes};
+ghost use Rattle.codremif.specs.Answers.{judgeAnswer, judgeBytes};
+ghost use Rattle.codremif.specs.AsRead.{IsRead};
 ghost use Rattle.codremif.specs.Lent.{Front};
 use crate::answers::JudgeAnswer;
 use models::model::Model;

@@ -1,8 +1,8 @@
-// The calls on a model text: judge a set of rules, list the cores, list the cuts, give MUST.
+// The calls on a model text: judge a set of rules, list the cores, list the cuts, give MUST, MAY or the irrelevant rules.
 pub mod answers;
 pub mod host;
 pub mod judging;
+pub mod kinds;
 pub mod listing;
-pub mod must;
 mod packing;
 pub mod together;

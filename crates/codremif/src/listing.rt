@@ -1,6 +1,7 @@
 // Listing the cores or the cuts: the whole list is found and counted before a byte is written.
 ghost use mathlib.Core.Path.{_≡_};
-ghost use Rattle.codremif.specs.Answers.{ofListed, listAnswer, listBytes};
+ghost use Rattle.codremif.specs.Answers.{listAnswer, listBytes};
+ghost use Rattle.codremif.specs.AsRead.{ofListed};
 use crate::answers::ListAnswer;
 use analysis::lists::Listed;
 use cores::which::WhichList;

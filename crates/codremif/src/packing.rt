@@ -1,9 +1,9 @@
 // An answer as the one 64-bit number that a C host gets.
 ghost use mathlib.Core.Path.{_≡_};
-ghost use Rattle.codremif.specs.Packing.{InRange, judgeParts, listParts, mustParts, packed};
+ghost use Rattle.codremif.specs.Packing.{InRange, judgeParts, listParts, setParts, packed};
 use crate::answers::JudgeAnswer;
 use crate::answers::ListAnswer;
-use crate::answers::MustAnswer;
+use crate::answers::SetAnswer;
 
 // The number, plus 256 times the line, plus 65,536 times the amount, plus 2^40 for a verdict that holds.
 fn pack(number: u8, line: usize, amount: usize, holds: bool) -> u64
@@ -35,12 +35,12 @@ pub(crate) fn pack_list(a: ListAnswer) -> u64
     }
 }
 
-pub(crate) fn pack_must(a: MustAnswer) -> u64
-    requires { ⌜ InRange (mustParts a) ⌝ }
-    ensures { λ r. ⌜ r ≡ packed (mustParts a) ⌝ }
+pub(crate) fn pack_set(a: SetAnswer) -> u64
+    requires { ⌜ InRange (setParts a) ⌝ }
+    ensures { λ r. ⌜ r ≡ packed (setParts a) ⌝ }
 {
     match a {
-        MustAnswer::Refused(number, line) => pack(number, line, 0, false),
-        MustAnswer::Set(set) => pack(0, 0, set as usize, false),
+        SetAnswer::Refused(number, line) => pack(number, line, 0, false),
+        SetAnswer::Set(set) => pack(0, 0, set as usize, false),
     }
 }

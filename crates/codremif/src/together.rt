@@ -4,13 +4,13 @@ ghost use Rattle.models.specs.declared.model.Outcome.the-variants.{Accepted};
 ghost use Rattle.codremif.specs.Answers.{textOutcome};
 ghost use Rattle.codremif.specs.Demand3.{AsCalled, TextDemand3, inRattle, asked};
 use crate::answers::ListAnswer;
-use crate::answers::MustAnswer;
+use crate::answers::SetAnswer;
 use cores::which::WhichList;
 
 pub struct Together {
     pub cores: ListAnswer,
     pub cuts: ListAnswer,
-    pub must: MustAnswer,
+    pub must: SetAnswer,
 }
 
 // Lists the cores and the cuts and gives MUST, each call reading the text itself.
@@ -21,7 +21,7 @@ pub fn ask_all(text: &[u8], cores: &mut [u8], cuts: &mut [u8]) -> Together
 {
     let a = crate::listing::list(text, WhichList::Cores, cores);
     let b = crate::listing::list(text, WhichList::Cuts, cuts);
-    let c = crate::must::give_must(text);
+    let c = crate::kinds::give_must(text);
     Together {
         cores: a,
         cuts: b,

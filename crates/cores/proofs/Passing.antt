@@ -1,15 +1,15 @@
 -- A loop that goes over the marked sets by number: where it stands, and that the sets it passes over add nothing to a list that is joined from
 -- the marked ones. From what the next marked set is. Assumes nothing.
 use Prim.Native.Nat.{ℕ, zero, suc, _+_, _*_, _^_, _≤_, _<_}
-use mathlib.Core.Path.{_≡_, _∙_}
+use mathlib.Core.Path.{_≡_, ap, _∙_}
 use mathlib.Core.Logic.{⊎-elim}
 use mathlib.Core.Bool.{Bool, true, false}
-use mathlib.Core.List.{List, [], _++_, append-nil}
+use mathlib.Core.List.{List, [], _∷_, _++_, append-nil}
 use native.Mathlib.Omega.{arith}
 use native.Mathlib.Nat.{eq-or-lt-of-le, le-of-suc-le-suc}
 use lib.ListN.{length}
 use lib.Pow.{pow-mono}
-use Rattle.sets.specs.Lists.{joined}
+use Rattle.sets.specs.Lists.{joined, oneIf, select}
 use Rattle.sets.specs.Laws.Growth.{joined-more}
 use Rattle.systems.specs.Next.{NextFrom}
 use Rattle.cores.specs.Marks.{marked, Room}
@@ -52,3 +52,20 @@ module _ (q : ℕ → Bool) (g : ℕ → List ℕ) (none : (S : ℕ) → q S ≡
 
   pub one-passed : (end s t : ℕ) → s < end → NextFrom q (s + 1) end t → joined g t ≡ joined g s ++ g s
   one-passed end s t l f = none-between end s t l f ∙ joined-more g s
+
+-- the marked sets below where the loop stands, by number
+module _ (table : List ℕ) where
+  unmarked : (S : ℕ) → marked table S ≡ false → oneIf (marked table S) S ≡ []
+  unfolding oneIf
+  unmarked S e = rw e
+
+  pub none-marked : {end s : ℕ} → NextFrom (marked table) 0 end s → select (marked table) s ≡ []
+  unfolding select
+  none-marked {end} {s} f = none-before (marked table) (λ S. oneIf (marked table S) S) unmarked end s f
+
+  pub one-marked : {end s t : ℕ} → Passing table end s → s < end → NextFrom (marked table) (s + 1) end t
+      → select (marked table) t ≡ select (marked table) s ++ s ∷ []
+  unfolding select oneIf
+  one-marked {end} {s} {t} p l f =
+      one-passed (marked table) (λ S. oneIf (marked table S) S) unmarked end s t l f
+      ∙ ap (λ b. joined (λ S. oneIf (marked table S) S) s ++ oneIf b s) (p .marks l)

@@ -3,7 +3,8 @@
 ghost use Prim.Native.Nat.{_≤_};
 use codremif::answers::JudgeAnswer;
 use codremif::answers::ListAnswer;
-use codremif::answers::MustAnswer;
+use codremif::answers::SetAnswer;
+use cores::kinds::Kind;
 use cores::which::WhichList;
 use libc::STDOUT_FILENO;
 use models::model::Outcome;
@@ -282,21 +283,27 @@ fn show_list(name: &[u8], text: &[u8], which: WhichList, room: usize)
     show_count(name, answer, lent);
 }
 
-fn show_must(name: &[u8], text: &[u8]) {
-    let answer = codremif::must::give_must(text);
-    io::write_all(STDOUT_FILENO, name);
+fn show_kind(text: &[u8], key: &[u8], kind: Kind) {
+    let answer = codremif::kinds::give(text, kind);
+    io::write_all(STDOUT_FILENO, key);
     match answer {
-        MustAnswer::Refused(number, line) => {
-            io::write_all(STDOUT_FILENO, b": refused=");
+        SetAnswer::Refused(number, line) => {
+            io::write_all(STDOUT_FILENO, b"refused ");
             io::print_decimal(STDOUT_FILENO, number as u64);
-            io::write_all(STDOUT_FILENO, b" line=");
+            io::write_all(STDOUT_FILENO, b" line ");
             io::print_decimal(STDOUT_FILENO, line as u64);
         }
-        MustAnswer::Set(set) => {
-            io::write_all(STDOUT_FILENO, b": must=");
+        SetAnswer::Set(set) => {
             io::print_decimal(STDOUT_FILENO, set as u64);
         }
     }
+}
+
+fn show_kinds(name: &[u8], text: &[u8]) {
+    io::write_all(STDOUT_FILENO, name);
+    show_kind(text, b": must=", Kind::Must);
+    show_kind(text, b" may=", Kind::May);
+    show_kind(text, b" irr=", Kind::Irrelevant);
     io::write_all(STDOUT_FILENO, b"\n");
 }
 
@@ -465,18 +472,42 @@ fn cut_lists() {
     );
 }
 
-fn must_rules() {
-    show_must(
+fn kinds_of_rules() {
+    show_kinds(
         b"Tremor",
         b"vars=3\nrules=3\ninit=!c\nprop=>c&ab\nrule=ra:>CA\nrule=rb:>CB\nrule=vote:>C&AB\n",
     );
-    show_must(
+    show_kinds(
         b"two rules together",
         b"vars=2\nrules=2\ninit=&!a!b\nprop=!b\nrule=r:=Aa\nrule=s:>Ba\n",
     );
-    show_must(
+    show_kinds(
+        b"a rule of each kind",
+        b"vars=2\nrules=4\ninit=&!a!b\nprop=!b\nrule=m:=Aa\nrule=s:>Ba\nrule=t:>Ba\nrule=z:1\n",
+    );
+    show_kinds(
+        b"the rule twice",
+        b"vars=1\nrules=2\ninit=!a\nprop=!a\nrule=r:=Aa\nrule=s:=Aa\n",
+    );
+    show_kinds(
+        b"no core",
+        b"vars=1\nrules=2\ninit=1\nprop=a\nrule=r:1\nrule=s:=Aa\n",
+    );
+    show_kinds(
+        b"set 0 is the one core",
+        b"vars=1\nrules=2\ninit=1\nprop=1\nrule=r:1\nrule=s:0\n",
+    );
+    show_kinds(
+        b"the last of 16 alone",
+        b"vars=1\nrules=16\ninit=!a\nprop=!a\nrule=a:1\nrule=b:1\nrule=c:1\nrule=d:1\nrule=e:1\nrule=f:1\nrule=g:1\nrule=h:1\nrule=i:1\nrule=j:1\nrule=k:1\nrule=l:1\nrule=m:1\nrule=n:1\nrule=o:1\nrule=p:=Aa\n",
+    );
+    show_kinds(
         b"a refused text",
         b"vars=1\nrules=1\ninit=A\nprop=1\nrule=r:1\n",
+    );
+    show_kinds(
+        b"bytes follow",
+        b"vars=1\nrules=1\ninit=1\nprop=1\nrule=r:1\nx",
     );
 }
 
@@ -496,5 +527,5 @@ fn main() {
     other_models();
     core_lists();
     cut_lists();
-    must_rules();
+    kinds_of_rules();
 }

@@ -15,7 +15,7 @@ use Rattle.lines.specs.Laws.Lines.{length-line}
 use Rattle.models.specs.declared.model.Outcome.the-variants.{Accepted}
 use Rattle.models.specs.Reading.{readModel}
 use Rattle.models.specs.Written.{Described, Legal, writtenModel, modelIn}
-use Rattle.models.specs.Laws.Written.{Finds, found-is-described, written-is-found, accepted-is-written, accepted-is-found, written-lines, length-five, rules-length, decimal-length}
+use Rattle.models.specs.Laws.Written.{found-is-described, written-is-found, accepted-is-written, accepted-is-found, written-lines, length-five, rules-length, decimal-length}
 
 -- a text is accepted exactly when it is the written form of a legal model
 pub accepts-what-is-written : (text : List ℕ) → (readModel text .outcome ≡ Accepted) ↔ ((M : Described) × Legal M × (text ≡ writtenModel M))
@@ -34,12 +34,14 @@ told text q =
     let is : w .0 ≡ modelIn text = found-is-described text (w .0) (readModel text) (w .3) in
     record { legal = subst Legal is (w .1); written = w .2 ∙ ap writtenModel is }
 
+-- the written form of a legal model tells that model
+pub told-back : (M : Described) → Legal M → modelIn (writtenModel M) ≡ M
+unfolding modelIn
+told-back M l = sym (found-is-described (writtenModel M) M (readModel (writtenModel M)) (written-is-found M l))
+
 -- a text is the written form of at most one legal model
 pub one-model : (M N : Described) → Legal M → Legal N → writtenModel M ≡ writtenModel N → M ≡ N
-one-model M N l k q =
-    let text : List ℕ = writtenModel M in
-    found-is-described text M (readModel text) (written-is-found M l)
-    ∙ sym (found-is-described text N (readModel text) (subst (λ t. Finds t N (readModel t)) (sym q) (written-is-found N k)))
+one-model M N l k q = sym (told-back M l) ∙ ap modelIn q ∙ told-back N k
 
 -- "no legal model has more than 1,420" bytes
 pub legal-length : (M : Described) → Legal M → length (writtenModel M) ≤ 1420

@@ -9,3 +9,5 @@ pub mod Refusals
 pub mod Numbers
 pub mod Tables
 pub mod Overlaps
+pub mod Changed
+pub mod Names

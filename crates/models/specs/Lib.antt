@@ -6,6 +6,7 @@ pub mod Places
 pub mod Written
 pub mod Refusals
 pub mod Overlaps
+pub mod Changed
 pub mod Accepted
 pub mod Refused
 pub mod Laws

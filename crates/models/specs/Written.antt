@@ -4,10 +4,11 @@
 use Prim.Native.Nat.{ℕ, _<_}
 use mathlib.Core.Logic.{_≢_}
 use mathlib.Core.Bool.{false}
-use mathlib.Core.List.{List, [], _++_, flatMap}
+use mathlib.Core.List.{List, [], _++_, map, flatMap}
 use mathlib.Core.Option.{Option, none, some}
 use lib.ListN.{length, getD, drop}
 use Rattle.sets.specs.Tabulated.{tabulate}
+use Rattle.sets.specs.Kept.{kept}
 use Rattle.exprs.specs.Expr.{Expr, constant, written}
 use Rattle.exprs.specs.Reading.{readExpr}
 use Rattle.lines.specs.Decimal.{decimal}
@@ -28,6 +29,11 @@ pub record Described : Type 0 where
 -- the rule at place i, where the first has place 0
 abbrev pub ruleAt : List Rule → ℕ → Rule
 ruleAt rules i = getD rules i (record { name = []; step = constant false })
+
+-- the names of the rules in a set, in the model's order
+unfoldable pub namesOf : Described → ℕ → List (List ℕ)
+unfolding kept
+namesOf M S = kept S (map (λ r. r .name) (M .rules))
 
 -- ---- when it is legal
 

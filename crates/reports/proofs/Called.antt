@@ -1,7 +1,8 @@
--- What the calls answer of an accepted text when enough bytes are lent: the verdict with its trace, MUST and the lists are the text's own.
+-- What the calls answer of an accepted text when enough bytes are lent: the verdict with its trace, the kinds of rules and
+-- the lists are the text's own.
 -- From the laws of the answers and their ranges. Assumes nothing.
 use Prim.Native.Nat.{ℕ, _*_, _^_, _≤_, _<_}
-use mathlib.Core.Path.{_≡_, sym, ap, _∙_}
+use mathlib.Core.Path.{_≡_, sym, ap, ap₂, _∙_}
 use mathlib.Core.Bool.{true, false}
 use mathlib.Core.List.{List, _++_, flatMap}
 use native.Mathlib.Omega.{arith}
@@ -13,6 +14,8 @@ use Rattle.sets.specs.Lists.{coresOf, cutsOf, bytesOf, overwritten}
 use Rattle.sets.specs.Laws.Lists.{length-bytesOf}
 use Rattle.sets.specs.Laws.Listed.{at-place, mem-listOf}
 use Rattle.models.specs.declared.model.Model.{Model}
+use Rattle.models.specs.Written.{described, modelIn}
+use Rattle.semantics.specs.Meaning.{judge}
 use Rattle.lines.specs.Bytes.{bytes}
 use Rattle.lines.specs.Written.{line}
 use Rattle.systems.specs.System.{System}
@@ -20,16 +23,19 @@ use Rattle.systems.specs.Verdict.{holds, traceOf}
 use Rattle.cores.specs.declared.which.WhichList.{WhichList}
 use Rattle.cores.specs.declared.which.WhichList.the-variants.{Cores, Cuts}
 use Rattle.cores.specs.Which.{listed}
+use Rattle.cores.specs.declared.kinds.Kind.{Kind}
+use Rattle.cores.specs.declared.kinds.Kind.the-variants.{Must, May, Irrelevant}
+use Rattle.cores.specs.declared.kinds.Kinds.{Kinds}
+use Rattle.cores.specs.Kinds.{kindsOf, ofKind}
 use Rattle.codremif.specs.declared.answers.JudgeAnswer.{JudgeAnswer}
 use Rattle.codremif.specs.declared.answers.JudgeAnswer.the-variants.{Refused as JudgeRefused, Holds, Broken}
 use Rattle.codremif.specs.declared.answers.ListAnswer.{ListAnswer}
-use Rattle.codremif.specs.declared.answers.MustAnswer.{MustAnswer}
-use Rattle.codremif.specs.declared.answers.MustAnswer.the-variants.{Refused as MustRefused, Set}
-use Rattle.codremif.specs.Answers.{Gives, IsRead, rulesIn, systemIn, traceIn, listIn, mustIn, verdictOf, judgeAnswer, judgeBytes, listAnswer, listBytes, mustAnswer}
+use Rattle.codremif.specs.Answers.{Gives, rulesIn, systemIn, traceIn, judgeIn, listIn, kindIn, verdictOf, judgeAnswer, judgeBytes, listAnswer, listBytes}
+use Rattle.codremif.specs.AsRead.{IsRead}
 use Rattle.codremif.specs.Packing.{listParts}
-use Rattle.codremif.specs.Laws.Answers.{rules-le, rules-read, judge-enough, list-enough, must-given, not-refused, held-verdict, broken-verdict}
-use Rattle.codremif.specs.Laws.Host.{trace-le, list-le, must-lt}
-use Rattle.reports.specs.Report.{numberLine, verdictLines}
+use Rattle.codremif.specs.Laws.Answers.{rules-le, rules-read, read-model, judge-enough, list-enough, not-refused, held-verdict, broken-verdict}
+use Rattle.codremif.specs.Laws.Host.{trace-le, list-le, kind-lt}
+use Rattle.reports.specs.Report.{numberLine, setLine, verdictLines, kindLines}
 use Rattle.reports.specs.Decoded.{decoded, AllBelow}
 use Rattle.reports.specs.Known.{SetRead, ListRead}
 use Rattle.reports.specs.Laws.Decoded.{decoded-bytes}
@@ -85,20 +91,42 @@ module _ (text : List ℕ) (m : Model) (r : IsRead text m) (S : ℕ) (all : S �
         ∙ lines-broken (systemIn text S) (broken .0)
         ∙ ap (λ (T : ℕ). verdictLines (systemIn text T)) full-set
 
--- ---- MUST
+-- ---- the kinds of rules
 
-module _ (text : List ℕ) (m : Model) (r : IsRead text m) (a : MustAnswer) (said : a ≡ mustAnswer text) where
-  gave : a ≡ Set (mustIn text)
-  gave = said ∙ must-given text (r .outcome)
+-- the rules of each kind are the text's own
+pub record KindsRead (text : List ℕ) (m : Model) (k : Kinds) : Type 0 where
+  pub must : SetRead text m (k .must)
+  pub may : SetRead text m (k .may)
+  pub irrelevant : SetRead text m (k .irrelevant)
 
-  pub must-accepted : (number at : ℕ) → a ≡ MustRefused number at → ⊥
-  must-accepted number at e = let q = gave in let z : _≡_ {A = ℕ} 0 1 = cc in omega arith
+module _ (text : List ℕ) (m : Model) (r : IsRead text m) (k : Kinds) (said : k ≡ kindsOf (m .rules) (judge (described text m))) where
+  gave : k ≡ kindsOf (rulesIn text) (judgeIn text)
+  unfolding judgeIn
+  gave = said ∙ ap₂ (λ (R : ℕ) D. kindsOf R (judge D)) (rules-read r) (read-model r)
 
-  pub must-is : (S : ℕ) → a ≡ Set S → S ≡ mustIn text
-  must-is S e = let q : Set S ≡ Set (mustIn text) = sym e ∙ gave in cc
+  own : (kind : Kind) {S : ℕ} → S ≡ ofKind kind (rulesIn text) (judgeIn text) → SetRead text m S
+  unfolding kindIn
+  own kind e = record { read = r; below = rw (e, rules-read r) (kind-lt kind text) }
 
-  pub must-read : (S : ℕ) → a ≡ Set S → SetRead text m S
-  must-read S e = record { read = r; below = rw (must-is S e, rules-read r) (must-lt text) }
+  must-is : k .must ≡ ofKind Must (rulesIn text) (judgeIn text)
+  unfolding kindsOf ofKind
+  must-is = ap (λ x. x .must) gave
+
+  may-is : k .may ≡ ofKind May (rulesIn text) (judgeIn text)
+  unfolding kindsOf ofKind
+  may-is = ap (λ x. x .may) gave
+
+  irrelevant-is : k .irrelevant ≡ ofKind Irrelevant (rulesIn text) (judgeIn text)
+  unfolding kindsOf ofKind
+  irrelevant-is = ap (λ x. x .irrelevant) gave
+
+  pub kinds-read : KindsRead text m k
+  kinds-read = record { must = own Must must-is; may = own May may-is; irrelevant = own Irrelevant irrelevant-is }
+
+  pub kinds-are : setLine (modelIn text) (bytes "must=") (k .must) ++ (setLine (modelIn text) (bytes "may=") (k .may) ++ setLine (modelIn text) (bytes "irr=") (k .irrelevant))
+      ≡ kindLines (modelIn text) (judgeIn text)
+  unfolding kindLines rulesIn
+  kinds-are = rw (must-is, may-is, irrelevant-is)
 
 -- ---- the lists
 

@@ -21,8 +21,9 @@ use Rattle.models.specs.Laws.Written.{described-rule}
 use Rattle.codremif.specs.Answers.{rulesIn}
 use Rattle.codremif.specs.Laws.Answers.{read-model, rules-le, rules-read}
 use Rattle.reports.specs.Page.{Page, putByte, put}
-use Rattle.reports.specs.Report.{separated, nameIn, namesOf}
+use Rattle.reports.specs.Report.{separated, nameIn, setText}
 use Rattle.reports.specs.Known.{RuleRead, SetRead}
+use Rattle.reports.specs.Laws.Report.{set-text}
 use Rattle.reports.specs.Laws.Page.{put-append, length-byte, length-put}
 
 -- The name of a rule of the text's model is found at its place.
@@ -54,9 +55,13 @@ all-named text m T p₀ p rest w e =
     ∙ w .left
 
 -- Set 0 has no name.
-pub empty-named : (text : List ℕ) (S : ℕ) (p : Page) → S ≡ 0 → putByte 45 p ≡ put (namesOf (modelIn text) S) p
-unfolding namesOf put separated
-empty-named text S p e = rw (e, select-none (length (modelIn text .rules))) refl
+none-named : (M : Described) (S : ℕ) → S ≡ 0 → setText M S ≡ bytes "-"
+unfolding separated
+none-named M S e = set-text M S ∙ ap (λ l. separated (map (nameIn M) l)) (ap (λ T. select (has T) (length (M .rules))) e ∙ select-none (length (M .rules)))
+
+pub empty-named : (text : List ℕ) (S : ℕ) (p : Page) → S ≡ 0 → putByte 45 p ≡ put (setText (modelIn text) S) p
+unfolding put
+empty-named text S p e = sym (ap (λ l. put l p) (none-named (modelIn text) S e))
 
 -- ---- the first rule t of a set S, and the set U of the others
 
@@ -91,9 +96,9 @@ module _ (text : List ℕ) (m : Model) (S : ℕ) (k : SetRead text m S) (some : 
     pub still-known : SetRead text m U
     still-known = record { read = k .read; below = omega (arith, without-le S t, less, k .below) }
 
-    pub names-are : nameIn (modelIn text) t ++ others (modelIn text) U ≡ namesOf (modelIn text) S
-    unfolding namesOf separated others flatMap R
-    names-are = ap (λ l. separated (map (nameIn (modelIn text)) l)) (sym rules-are)
+    pub names-are : nameIn (modelIn text) t ++ others (modelIn text) U ≡ setText (modelIn text) S
+    unfolding separated others flatMap R
+    names-are = ap (λ l. separated (map (nameIn (modelIn text)) l)) (sym rules-are) ∙ sym (set-text (modelIn text) S)
 
     pub next-named : (T : ℕ) (p₀ p q s : Page) → Naming text m T p₀ p S → q ≡ putByte 44 p → s ≡ put (nameIn (modelIn text) t) q → Naming text m T p₀ s U
     unfolding others put flatMap R

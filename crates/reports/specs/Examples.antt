@@ -5,22 +5,22 @@ use lib.Count.{ones}
 use Rattle.exprs.specs.Token.{tokenOf}
 use Rattle.exprs.specs.Expr.{size}
 use Rattle.lines.specs.Bytes.{belongs, endedLines}
-use Rattle.sets.specs.Lists.{mustOf}
+use Rattle.cores.specs.Kinds.{ofKind}
 use Rattle.semantics.specs.Meaning.{systemOf, judge}
 use Rattle.cores.specs.Which.{listed}
-use Rattle.reports.specs.Report.{verdictLines, setLine, listLines, modelReport, reportOf}
+use Rattle.reports.specs.Report.{verdictLines, setLine, kindLines, listLines, modelReport, reportOf}
 
 pub tremor-report : reportOf (endedLines ("vars=3" ∷ "rules=3" ∷ "init=!c" ∷ "prop=>c&ab" ∷ "rule=ra:>CA" ∷ "rule=rb:>CB" ∷ "rule=vote:>C&AB" ∷ []))
-    ≡ endedLines ("verdict=holds" ∷ "must=-" ∷ "cores=2" ∷ "core=vote" ∷ "core=ra,rb" ∷ "cuts=2" ∷ "cut=ra,vote" ∷ "cut=rb,vote" ∷ [])
-unfolding reportOf modelReport verdictLines systemOf judge setLine mustOf listLines listed endedLines size belongs tokenOf ones
+    ≡ endedLines ("verdict=holds" ∷ "must=-" ∷ "may=ra,rb,vote" ∷ "irr=-" ∷ "cores=2" ∷ "core=vote" ∷ "core=ra,rb" ∷ "cuts=2" ∷ "cut=ra,vote" ∷ "cut=rb,vote" ∷ [])
+unfolding reportOf modelReport verdictLines systemOf judge setLine kindLines ofKind listLines listed endedLines size belongs tokenOf ones
 tremor-report = refl
 
 -- Tremor with `ra` as its only rule, which is broken, and a text that is refused
 pub broken-report : reportOf (endedLines ("vars=3" ∷ "rules=1" ∷ "init=!c" ∷ "prop=>c&ab" ∷ "rule=ra:>CA" ∷ []))
-    ≡ endedLines ("verdict=broken" ∷ "state=0" ∷ "state=5" ∷ "must=-" ∷ "cores=0" ∷ "cuts=1" ∷ "cut=-" ∷ [])
-unfolding reportOf modelReport verdictLines systemOf judge setLine mustOf listLines listed endedLines size belongs tokenOf ones
+    ≡ endedLines ("verdict=broken" ∷ "state=0" ∷ "state=5" ∷ "must=-" ∷ "may=-" ∷ "irr=ra" ∷ "cores=0" ∷ "cuts=1" ∷ "cut=-" ∷ [])
+unfolding reportOf modelReport verdictLines systemOf judge setLine kindLines ofKind listLines listed endedLines size belongs tokenOf ones
 broken-report = refl
 
 pub refused-report : reportOf (endedLines ("vars=3" ∷ "rules=17" ∷ [])) ≡ endedLines ("refused=2" ∷ "line=2" ∷ [])
-unfolding reportOf modelReport verdictLines systemOf judge setLine mustOf listLines listed endedLines size belongs tokenOf ones
+unfolding reportOf modelReport verdictLines systemOf judge setLine kindLines ofKind listLines listed endedLines size belongs tokenOf ones
 refused-report = refl

@@ -3,7 +3,7 @@
 use Prim.Native.Nat.{ℕ, _^_, _<_}
 use mathlib.Core.List.{List}
 use Rattle.models.specs.declared.model.Model.{Model}
-use Rattle.codremif.specs.Answers.{IsRead}
+use Rattle.codremif.specs.AsRead.{IsRead}
 use Rattle.reports.specs.Decoded.{decoded, AllBelow}
 
 -- i is the place of one of its rules

@@ -1,14 +1,13 @@
 -- The report of a text, as bytes. From document 01, "The report": its lines in order, each ended by byte 10.
 -- Assumes nothing: these are definitions.
 use Prim.Native.Nat.{ℕ}
-use mathlib.Core.Bool.{cond}
-use mathlib.Core.List.{List, [], _∷_, _++_, map, flatMap}
+use mathlib.Core.Bool.{Bool, cond}
+use mathlib.Core.List.{List, [], _∷_, _++_, flatMap}
 use lib.ListN.{length, take}
-use Rattle.sets.specs.Bit.{has, full}
-use Rattle.sets.specs.Lists.{select, mustOf}
+use Rattle.sets.specs.Bit.{full}
 use Rattle.lines.specs.Bytes.{bytes}
 use Rattle.lines.specs.Written.{line}
-use Rattle.models.specs.Written.{Described, ruleAt, modelIn}
+use Rattle.models.specs.Written.{Described, ruleAt, namesOf, modelIn}
 use Rattle.lines.specs.Decimal.{decimal}
 use Rattle.models.specs.declared.model.Outcome.{Outcome}
 use Rattle.models.specs.declared.model.Outcome.the-variants.{Accepted, Refused}
@@ -18,6 +17,8 @@ use Rattle.semantics.specs.Meaning.{systemOf, judge}
 use Rattle.cores.specs.declared.which.WhichList.{WhichList}
 use Rattle.cores.specs.declared.which.WhichList.the-variants.{Cores, Cuts}
 use Rattle.cores.specs.Which.{listed}
+use Rattle.cores.specs.declared.kinds.Kind.the-variants.{Must, May, Irrelevant}
+use Rattle.cores.specs.Kinds.{ofKind}
 use Rattle.codremif.specs.Answers.{textOutcome}
 
 -- ---- the lines
@@ -38,13 +39,13 @@ unfoldable pub nameIn : Described → ℕ → List ℕ
 nameIn M i = ruleAt (M .rules) i .name
 
 -- a set as the names of its rules, in the model's order; the empty set is `-`
-unfoldable pub namesOf : Described → ℕ → List ℕ
-unfolding separated nameIn select has
-namesOf M S = separated (map (nameIn M) (select (has S) (length (M .rules))))
+unfoldable pub setText : Described → ℕ → List ℕ
+unfolding separated namesOf
+setText M S = separated (namesOf M S)
 
 unfoldable pub setLine : Described → List ℕ → ℕ → List ℕ
-unfolding line namesOf
-setLine M key S = line key (namesOf M S)
+unfolding line setText
+setLine M key S = line key (setText M S)
 
 -- `verdict=holds` or `verdict=broken`, and one `state=` line for each state of the trace if broken
 unfoldable pub verdictLines : System → List ℕ
@@ -52,6 +53,14 @@ unfolding line numberLine holds traceOf flatMap
 verdictLines N =
     cond (holds N) (line (bytes "verdict=") (bytes "holds"))
     (line (bytes "verdict=") (bytes "broken") ++ flatMap (numberLine (bytes "state=")) (traceOf N))
+
+-- `must=`, `may=` and `irr=`: the rules of each kind, of those that h judges
+unfoldable pub kindLines : Described → (ℕ → Bool) → List ℕ
+kindLines M h =
+    let R = length (M .rules) in
+    setLine M (bytes "must=") (ofKind Must R h)
+    ++ (setLine M (bytes "may=") (ofKind May R h)
+    ++ setLine M (bytes "irr=") (ofKind Irrelevant R h))
 
 -- the keys of a list: that of its count, and that of each of its sets
 unfoldable pub countKey : WhichList → List ℕ
@@ -69,12 +78,12 @@ listLines M which sets = numberLine (countKey which) (length sets) ++ flatMap (s
 
 -- ---- the report
 
--- of an accepted text's model: the verdict on the full set, MUST, the cores, the cuts
+-- of an accepted text's model: the verdict on the full set, MUST, MAY and the irrelevant rules, the cores, the cuts
 unfoldable pub modelReport : Described → List ℕ
 modelReport M =
     let R = length (M .rules) in
     verdictLines (systemOf M (full R))
-    ++ (setLine M (bytes "must=") (mustOf R (judge M))
+    ++ (kindLines M (judge M)
     ++ (listLines M Cores (listed Cores R (judge M))
     ++ listLines M Cuts (listed Cuts R (judge M))))
 

@@ -2,7 +2,7 @@
 ghost use mathlib.Core.Path.{_≡_};
 ghost use Rattle.models.specs.Written.{modelIn};
 ghost use Rattle.reports.specs.Page.{pageOf, put};
-ghost use Rattle.reports.specs.Report.{nameIn, namesOf, setLine};
+ghost use Rattle.reports.specs.Report.{nameIn, setText, setLine};
 ghost use Rattle.reports.specs.Known.{RuleRead, SetRead};
 use crate::page::Place;
 use models::model::Model;
@@ -21,7 +21,7 @@ fn put_name(text: &[u8], m: Model, i: usize, p: Place, page: &mut [u8]) -> Place
 // The names of a set's rules, in the model's order and with commas: the next rule is always the first of those that are left.
 fn put_names(text: &[u8], m: Model, set: RuleSet, p: Place, page: &mut [u8]) -> Place
     requires { ⌜ SetRead (now text) m (set .0) ⌝ }
-    ensures { λ r. ⌜ pageOf r (now (page .exit)) ≡ put (namesOf (modelIn (now (text .entry))) (set .0)) (pageOf p (now (page .entry))) ⌝ }
+    ensures { λ r. ⌜ pageOf r (now (page .exit)) ≡ put (setText (modelIn (now (text .entry))) (set .0)) (pageOf p (now (page .entry))) ⌝ }
 {
     if set.0 == 0 {
         return crate::page::put_byte(b'-', p, page);

@@ -3,16 +3,15 @@ ghost use mathlib.Core.Path.{_≡_};
 ghost use lib.ListN.{length};
 ghost use Rattle.sets.specs.Bit.{full};
 ghost use Rattle.sets.specs.Lists.{overwritten};
-ghost use Rattle.lines.specs.Bytes.{bytes};
 ghost use Rattle.models.specs.Written.{modelIn};
-ghost use Rattle.codremif.specs.Answers.{IsRead, rulesIn, systemIn, listIn, mustIn};
+ghost use Rattle.codremif.specs.Answers.{rulesIn, systemIn, judgeIn, listIn};
+ghost use Rattle.codremif.specs.AsRead.{IsRead};
 ghost use Rattle.codremif.specs.Packing.{listParts};
 ghost use Rattle.reports.specs.Page.{pageOf, put, window, printedOf};
-ghost use Rattle.reports.specs.Report.{verdictLines, setLine, listLines, modelReport, refusalReport, reportOf, judgedPart};
+ghost use Rattle.reports.specs.Report.{verdictLines, kindLines, listLines, modelReport, refusalReport, reportOf, judgedPart};
 use crate::page::Place;
 use codremif::answers::JudgeAnswer;
 use codremif::answers::ListAnswer;
-use codremif::answers::MustAnswer;
 use cores::which::WhichList;
 use models::model::Model;
 use models::model::Outcome;
@@ -54,16 +53,16 @@ fn verdict_lines(text: &[u8], m: Model, p: Place, page: &mut [u8]) -> Place
     }
 }
 
-fn must_line(text: &[u8], m: Model, p: Place, page: &mut [u8]) -> Place
+// MUST, MAY and the irrelevant rules. The sets are judged once for all three.
+fn kind_lines(text: &[u8], m: Model, p: Place, page: &mut [u8]) -> Place
     requires { ⌜ IsRead (now text) m ⌝ }
     ensures { λ r. ⌜
-        pageOf r (now (page .exit)) ≡ put (setLine (modelIn (now (text .entry))) (bytes "must=") (mustIn (now (text .entry)))) (pageOf p (now (page .entry))) ⌝ }
+        pageOf r (now (page .exit)) ≡ put (kindLines (modelIn (now (text .entry))) (judgeIn (now (text .entry)))) (pageOf p (now (page .entry))) ⌝ }
 {
-    let answer = codremif::must::give_must(text);
-    match answer {
-        MustAnswer::Refused(number, line) => p,
-        MustAnswer::Set(set) => crate::names::set_line(text, m, b"must=", RuleSet(set), p, page),
-    }
+    let kinds = analysis::kinds::kinds(text, m);
+    let q = crate::names::set_line(text, m, b"must=", RuleSet(kinds.must), p, page);
+    let s = crate::names::set_line(text, m, b"may=", RuleSet(kinds.may), q, page);
+    crate::names::set_line(text, m, b"irr=", RuleSet(kinds.irrelevant), s, page)
 }
 
 fn counted(answer: ListAnswer) -> usize
@@ -92,7 +91,7 @@ fn model_report(text: &[u8], m: Model, p: Place, page: &mut [u8]) -> Place
     ensures { λ r. ⌜ pageOf r (now (page .exit)) ≡ put (modelReport (modelIn (now (text .entry)))) (pageOf p (now (page .entry))) ⌝ }
 {
     let q = verdict_lines(text, m, p, page);
-    let s = must_line(text, m, q, page);
+    let s = kind_lines(text, m, q, page);
     let t = list_lines(text, m, WhichList::Cores, s, page);
     list_lines(text, m, WhichList::Cuts, t, page)
 }

@@ -1,5 +1,6 @@
 -- What is proved of the definitions.
 pub mod Meaning
+pub mod Changed
 pub mod TablesOf
 pub mod Places
 pub mod Filled

@@ -6,9 +6,11 @@ pub mod Lists
 pub mod Gathered
 pub mod Tabulated
 pub mod Choice
+pub mod Rows
 pub mod First
 pub mod Listed
 pub mod Must
+pub mod ByNumber
 pub mod Edges
 pub mod Duality
 pub mod MustRules
@@ -16,3 +18,7 @@ pub mod Neighbours
 pub mod Growth
 pub mod Steps
 pub mod Demand3
+pub mod Kinds
+pub mod Kept
+pub mod OneList
+pub mod Renumbered

@@ -6,5 +6,8 @@ pub mod Gathered
 pub mod Sets
 pub mod Cores
 pub mod Lists
+pub mod Kinds
+pub mod Kept
+pub mod Renumbered
 pub mod Demand3
 pub mod Laws

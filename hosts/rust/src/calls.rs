@@ -15,7 +15,8 @@ mod declared {
         pub fn codremif_cores(text: *const u8, text_len: usize, sets: *mut u8, sets_len: usize) -> u64;
         pub fn codremif_cuts(text: *const u8, text_len: usize, sets: *mut u8, sets_len: usize) -> u64;
         pub fn codremif_must(text: *const u8, text_len: usize) -> u64;
-        #[cfg(has_version)]
+        pub fn codremif_may(text: *const u8, text_len: usize) -> u64;
+        pub fn codremif_irr(text: *const u8, text_len: usize) -> u64;
         pub fn codremif_version() -> u64;
     }
 }
@@ -49,17 +50,38 @@ pub fn cuts(text: &[u8], sets: &mut [u8]) -> Result<usize, Refused> {
     amount_alone(packed)
 }
 
+/// So many bytes are enough for every list: of 16 rules, 12,870 sets at most have none that is a part of another.
+pub const LIST_BYTES: usize = 2 * 12_870;
+
+/// The sets of a list, `call` being `cores` or `cuts`, with enough bytes lent.
+pub fn listed(
+    call: fn(&[u8], &mut [u8]) -> Result<usize, Refused>,
+    text: &[u8],
+) -> Result<Vec<u16>, Refused> {
+    let mut sets = vec![0; LIST_BYTES];
+    let count = call(text, &mut sets)?;
+    Ok(sets.chunks(2).take(count).map(|set| u16::from(set[0]) + 256 * u16::from(set[1])).collect())
+}
+
 /// Gives the set MUST.
 pub fn must(text: &[u8]) -> Result<u16, Refused> {
     // SAFETY: as in `judge`.
-    let packed = unsafe { declared::codremif_must(text.as_ptr(), text.len()) };
-    let set = amount_alone(packed)?;
-    Ok(u16::try_from(set).expect("MUST is no set of 16 rules"))
+    set_alone(unsafe { declared::codremif_must(text.as_ptr(), text.len()) })
 }
 
-/// Gives the library's version: major * 1,000,000 + minor * 1,000 + patch. The build script leaves it out where the
-/// library has no such call.
-#[cfg(has_version)]
+/// Gives the set MAY: the rules in some core but not in MUST.
+pub fn may(text: &[u8]) -> Result<u16, Refused> {
+    // SAFETY: as in `judge`.
+    set_alone(unsafe { declared::codremif_may(text.as_ptr(), text.len()) })
+}
+
+/// Gives the set of the irrelevant rules: those in no core, and so every rule where there is no core.
+pub fn irrelevant(text: &[u8]) -> Result<u16, Refused> {
+    // SAFETY: as in `judge`.
+    set_alone(unsafe { declared::codremif_irr(text.as_ptr(), text.len()) })
+}
+
+/// Gives the library's version: major * 1,000,000 + minor * 1,000 + patch.
 pub fn version() -> u64 {
     // SAFETY: it is handed nothing.
     unsafe { declared::codremif_version() }
@@ -95,6 +117,12 @@ fn amount_alone(packed: u64) -> Result<usize, Refused> {
     let accepted = unpack(packed)?;
     assert!(!accepted.holds, "a verdict where none is due: {packed:#x}");
     Ok(accepted.amount)
+}
+
+/// For the calls that give a set.
+fn set_alone(packed: u64) -> Result<u16, Refused> {
+    let set = amount_alone(packed)?;
+    Ok(u16::try_from(set).unwrap_or_else(|_| panic!("no set of 16 rules: {packed:#x}")))
 }
 
 #[cfg(test)]

@@ -82,14 +82,28 @@ impl Tally {
         self.ask(text, length, fill, |lent| calls::cuts(text, lent), |lent| plain.list_cuts(lent))
     }
 
-    pub fn must(&mut self, text: &[u8], plain: &Answers) {
-        let answered = calls::must(text);
-        assert_eq!(answered, Ok(plain.must), "library left, plain search right; {}", show(text));
+    /// The calls that give a set: MUST, MAY and the irrelevant rules. They lend no bytes, so the answer is all that there
+    /// is to compare.
+    pub fn kinds(&mut self, text: &[u8], plain: &Answers) {
+        self.ask_set("MUST", text, calls::must, Ok(plain.must));
+        self.ask_set("MAY", text, calls::may, Ok(plain.may));
+        self.ask_set("irrelevant", text, calls::irrelevant, Ok(plain.irrelevant));
+    }
+
+    fn ask_set(
+        &mut self,
+        name: &str,
+        text: &[u8],
+        library: fn(&[u8]) -> Result<u16, Refused>,
+        expected: Result<u16, Refused>,
+    ) {
+        let answered = library(text);
+        assert_eq!(answered, expected, "{name}, library left, plain search right; {}", show(text));
         self.count(&answered);
     }
 
-    /// A text that the plain reader refuses: all four calls must refuse it alike. Judge is asked with set 0, with a set
-    /// too large for any model and with no byte lent, because the text comes before 10 and 11.
+    /// A text that the plain reader refuses: all calls must refuse it alike. Judge is asked with set 0, with a set too
+    /// large for any model and with no byte lent, because the text comes before 10 and 11.
     pub fn refused_text(&mut self, text: &[u8], expected: Refused, fill: Fill) {
         for (set, length) in [(0, 128), (0, 0), (u32::MAX, 0), (1 << 16, 16)] {
             let library = |lent: &mut [u8]| calls::judge(text, set, lent);
@@ -99,9 +113,9 @@ impl Tally {
             let _ = self.ask(text, length, fill, |lent| calls::cores(text, lent), |_| Err(expected));
             let _ = self.ask(text, length, fill, |lent| calls::cuts(text, lent), |_| Err(expected));
         }
-        let answered = calls::must(text);
-        assert_eq!(answered, Err(expected), "library left, plain search right; {}", show(text));
-        self.count(&answered);
+        self.ask_set("MUST", text, calls::must, Err(expected));
+        self.ask_set("MAY", text, calls::may, Err(expected));
+        self.ask_set("irrelevant", text, calls::irrelevant, Err(expected));
     }
 }
 

@@ -1,7 +1,7 @@
 //! A Rust host of libcodremif.a, and the tests that hold the library to docs/FORMAT.md.
 //!
 //! * [`calls`] declares the C functions and wraps them safely.
-//! * [`plain`] answers the same four calls by a plain search, written from the request's text alone. It shares no code and no
+//! * [`plain`] answers the same calls by a plain search, written from the request's text alone. It shares no code and no
 //!   table with the library: it evaluates every rule for every pair of states, judges every rule set, and takes the
 //!   cores and cuts by their definition.
 //! * [`judgements`] counts the judgements of a list call, for the bench.

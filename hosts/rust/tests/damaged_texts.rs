@@ -1,5 +1,5 @@
-//! Texts that are not models: the number and the line of the library against those of the plain reader, in all four
-//! calls, and no lent byte changed.
+//! Texts that are not models: the number and the line of the library against those of the plain reader, in all calls, and
+//! no lent byte changed.
 
 #![deny(warnings)]
 
@@ -135,7 +135,7 @@ fn compare_accepted(seen: &mut Seen, text: &[u8], model: &Model, fills: &[Fill])
 fn compare_in_full(seen: &mut Seen, text: &[u8], fills: &[Fill]) {
     let plain = Answers::of(text).expect("accepted before");
     seen.compared_in_full += 1;
-    seen.tally.must(text, &plain);
+    seen.tally.kinds(text, &plain);
     for fill in fills {
         let needed = 2 * plain.cores.len().max(plain.cuts.len());
         let _ = seen.tally.judge(text, &plain, 0, 128, *fill);

@@ -32,24 +32,24 @@ fn expect_judged(text: &str, expected: &[(u16, Option<&[u8]>)]) {
     }
 }
 
-fn expect_lists(text: &str, cores: &[u16], cuts: &[u16], must: u16) {
+/// MUST, MAY and the irrelevant rules, each a set.
+struct Kinds(u16, u16, u16);
+
+fn expect_lists(text: &str, cores: &[u16], cuts: &[u16], Kinds(must, may, irrelevant): Kinds) {
     let text = text.as_bytes();
     let plain = Answers::of(text).expect("an accepted model");
+    assert_eq!((&plain.cores[..], &plain.cuts[..]), (cores, cuts), "plain search; {}", show(text));
     assert_eq!(
-        (&plain.cores[..], &plain.cuts[..], plain.must),
-        (cores, cuts, must),
+        (plain.must, plain.may, plain.irrelevant),
+        (must, may, irrelevant),
         "plain search; {}",
         show(text)
     );
-    assert_eq!(listed(|lent| calls::cores(text, lent)), cores, "library's cores; {}", show(text));
-    assert_eq!(listed(|lent| calls::cuts(text, lent)), cuts, "library's cuts; {}", show(text));
+    assert_eq!(calls::listed(calls::cores, text), Ok(cores.to_vec()), "library's cores; {}", show(text));
+    assert_eq!(calls::listed(calls::cuts, text), Ok(cuts.to_vec()), "library's cuts; {}", show(text));
     assert_eq!(calls::must(text), Ok(must), "library's MUST; {}", show(text));
-}
-
-fn listed(call: impl FnOnce(&mut [u8]) -> Result<usize, Refused>) -> Vec<u16> {
-    let mut lent = [99; 64];
-    let count = call(&mut lent).expect("an accepted call");
-    lent.chunks(2).take(count).map(|set| u16::from(set[0]) + 256 * u16::from(set[1])).collect()
+    assert_eq!(calls::may(text), Ok(may), "library's MAY; {}", show(text));
+    assert_eq!(calls::irrelevant(text), Ok(irrelevant), "library's irrelevant rules; {}", show(text));
 }
 
 fn expect_refused(text: &str, reason: Reason, line: u8) {
@@ -62,7 +62,7 @@ fn expect_refused(text: &str, reason: Reason, line: u8) {
 
 fn expect_accepted(text: &str) {
     let plain = Answers::of(text.as_bytes()).expect("an accepted model");
-    Tally::default().must(text.as_bytes(), &plain);
+    Tally::default().kinds(text.as_bytes(), &plain);
 }
 
 /// A text with one bit and one rule.
@@ -83,7 +83,7 @@ fn tremor() {
         TREMOR,
         &[(0, Some(&[0, 4])), (1, Some(&[0, 5])), (2, Some(&[0, 6])), (3, None), (4, None), (7, None)],
     );
-    expect_lists(TREMOR, &[4, 3], &[5, 6], 0);
+    expect_lists(TREMOR, &[4, 3], &[5, 6], Kinds(0, 7, 0));
 }
 
 #[test]
@@ -106,13 +106,13 @@ fn tremor_set_and_lent_bytes() {
 fn tremor_with_one_rule() {
     let text = "vars=3\nrules=1\ninit=!c\nprop=>c&ab\nrule=ra:>CA\n";
     expect_judged(text, &[(1, Some(&[0, 5]))]);
-    expect_lists(text, &[], &[0], 0);
+    expect_lists(text, &[], &[0], Kinds(0, 0, 1));
 }
 
 #[test]
 fn set_0_is_the_only_core() {
-    expect_lists(&one_bit("1", "1", "1"), &[0], &[], 0);
-    expect_lists(&one_bit("0", "0", "1"), &[0], &[], 0);
+    expect_lists(&one_bit("1", "1", "1"), &[0], &[], Kinds(0, 0, 1));
+    expect_lists(&one_bit("0", "0", "1"), &[0], &[], Kinds(0, 0, 1));
 }
 
 #[test]
@@ -122,17 +122,34 @@ fn a_bad_start_state() {
 
 #[test]
 fn one_rule_once_and_twice() {
-    expect_lists(&one_bit("!a", "!a", "=Aa"), &[1], &[1], 1);
+    expect_lists(&one_bit("!a", "!a", "=Aa"), &[1], &[1], Kinds(1, 0, 0));
     let twice = "vars=1\nrules=2\ninit=!a\nprop=!a\nrule=r:=Aa\nrule=s:=Aa\n";
-    expect_lists(twice, &[1, 2], &[3], 0);
+    expect_lists(twice, &[1, 2], &[3], Kinds(0, 3, 0));
     let never = one_bit("!a", "!a", "0");
-    expect_lists(&never, &[1], &[1], 1);
+    expect_lists(&never, &[1], &[1], Kinds(1, 0, 0));
 }
 
 #[test]
 fn two_steps_to_a_bad_state() {
     expect_judged(LATCH, &[(3, None), (2, Some(&[0, 1, 2])), (1, Some(&[0, 2])), (0, Some(&[0, 2]))]);
-    expect_lists(LATCH, &[3], &[1, 2], 3);
+    expect_lists(LATCH, &[3], &[1, 2], Kinds(3, 0, 0));
+}
+
+/// `motion` and `double` each see the station, `power` alone sees the battery, and nobody relies on `quiet` and `lamp`.
+#[test]
+fn rules_of_all_three_kinds() {
+    let text = "vars=4\nrules=5\ninit=!c\nprop=>c&ab\nrule=motion:>CA\nrule=quiet:>!a!C\nrule=power:>CB\n\
+                rule=double:>C&aA\nrule=lamp:=DC\n";
+    expect_lists(text, &[5, 12], &[4, 9], Kinds(4, 9, 18));
+}
+
+#[test]
+fn without_a_core_every_rule_is_irrelevant() {
+    let stale = "vars=4\nrules=2\ninit=&!a&!b&!c!d\nprop=>c&ab\nrule=mem:=Da\nrule=vote:>C&BD\n";
+    expect_lists(stale, &[], &[0], Kinds(0, 0, 3));
+    let rules: String = (0..16).map(|rule| format!("rule=r{rule}:1\n")).collect();
+    let sixteen = format!("vars=1\nrules=16\ninit=!a\nprop=!a\n{rules}");
+    expect_lists(&sixteen, &[], &[0], Kinds(0, 0, 65_535));
 }
 
 #[test]

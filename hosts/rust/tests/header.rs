@@ -58,7 +58,6 @@ fn refusals() {
     }
 }
 
-#[cfg(has_version)]
 #[test]
 fn version() {
     let header = header();

@@ -1,4 +1,5 @@
-//! Random accepted models: verdicts, traces, cores, cuts and MUST of the library against the plain search.
+//! Random accepted models: verdicts, traces, cores, cuts, MUST, MAY and irrelevant rules of the library against the plain
+//! search.
 
 #![deny(warnings)]
 
@@ -35,6 +36,7 @@ fn small_models_with_every_set_judged() {
     assert!(seen.duality_checked == seen.models, "{seen:?}");
     assert!(seen.contradictory >= 300 && seen.no_start >= 300 && seen.no_successor >= 300, "{seen:?}");
     assert!(seen.no_core >= 1000 && seen.empty_core >= 1000 && seen.neither >= 1000, "{seen:?}");
+    assert!(seen.all_kinds >= 200 && seen.irrelevant_beside_core >= 2000, "{seen:?}");
 }
 
 #[test]
@@ -80,6 +82,8 @@ struct Seen {
     no_core: usize,
     empty_core: usize,
     neither: usize,
+    all_kinds: usize,
+    irrelevant_beside_core: usize,
     judged: usize,
     longest_trace: usize,
     duality_checked: usize,
@@ -113,7 +117,7 @@ fn compare_model(random: &mut Random, seen: &mut Seen, text: &[u8]) {
     let plain = Answers::of(text).unwrap_or_else(|refused| panic!("{refused}; {}", show(text)));
     note_features(seen, &plain);
     compare_lists(seen, text, &plain);
-    seen.tally.must(text, &plain);
+    seen.tally.kinds(text, &plain);
     for set in sets_to_judge(random, &plain) {
         compare_judged(seen, text, &plain, set);
     }
@@ -134,6 +138,9 @@ fn note_features(seen: &mut Seen, plain: &Answers) {
     seen.no_core += usize::from(plain.cores.is_empty());
     seen.empty_core += usize::from(plain.cores == [0]);
     seen.neither += usize::from(cores > 0 && cuts > 0);
+    seen.all_kinds += usize::from(plain.must != 0 && plain.may != 0 && plain.irrelevant != 0);
+    let in_a_core = plain.must | plain.may;
+    seen.irrelevant_beside_core += usize::from(in_a_core != 0 && plain.irrelevant != 0);
 }
 
 /// Each rule is met by some pair of states, but none meets all of them.
@@ -240,10 +247,14 @@ fn compare_too_large(seen: &mut Seen, text: &[u8], plain: &Answers) {
 }
 
 /// Demand 3 of the plain lists themselves: each is the other's minimal hitting sets, and MUST has exactly the rules that
-/// form a cut alone. By brute force over all sets, so only where R is at most 10.
+/// form a cut alone. So a rule is in some core exactly where it is in some cut. By brute force over all sets, so only where
+/// R is at most 10.
 fn check_duality(seen: &mut Seen, text: &[u8], plain: &Answers) {
     let alone = plain.cuts.iter().filter(|cut| cut.count_ones() == 1);
     assert_eq!(plain.must, alone.fold(0, |set, cut| set | cut), "MUST; {}", show(text));
+    let in_a_cut = plain.cuts.iter().fold(0, |set, cut| set | cut);
+    assert_eq!(plain.may, in_a_cut & !plain.must, "MAY; {}", show(text));
+    assert_eq!(plain.irrelevant, plain.system.full_set() & !in_a_cut, "irrelevant; {}", show(text));
     if plain.system.rules > 10 {
         return;
     }

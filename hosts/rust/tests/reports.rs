@@ -21,6 +21,8 @@ const TREMOR: &[u8] = b"vars=3\nrules=3\ninit=!c\nprop=>c&ab\nrule=ra:>CA\nrule=
 const TREMOR_REPORT: &[u8] = b"\
 verdict=holds\n\
 must=-\n\
+may=ra,rb,vote\n\
+irr=-\n\
 cores=2\n\
 core=vote\n\
 core=ra,rb\n\
@@ -40,7 +42,7 @@ fn sample_models() {
     let program = Program::found();
     let names = names_in_models("txt");
     assert_eq!(names, names_in_models("report"), "each model has a report and each report a model");
-    assert!(names.len() >= 13, "{names:?}");
+    assert!(names.len() >= 15, "{names:?}");
     for name in &names {
         let (text, expected) = (sample(name, "txt"), sample(name, "report"));
         println!("sample models: {name}, {} bytes, report of {} bytes", text.len(), expected.len());
@@ -48,6 +50,19 @@ fn sample_models() {
         assert_alike("report program", &program.report(&text), &expected, &text);
         let from_file = program.report_on_file(&path_of(name, "txt"));
         assert_alike("report program on a file", &from_file, &expected, &text);
+    }
+}
+
+/// The models that are there for the kinds of their rules keep them.
+#[test]
+fn kinds_in_sample_models() {
+    for (name, kinds) in [
+        ("battery", &b"must=power\nmay=motion,double\nirr=quiet,lamp\ncores=2\n"[..]),
+        ("stale_vote", b"must=-\nmay=-\nirr=mem,vote\ncores=0\n"),
+        ("no_start", b"must=-\nmay=-\nirr=gate\ncores=1\ncore=-\n"),
+    ] {
+        let report = sample(name, "report");
+        assert!(report.windows(kinds.len()).any(|window| window == kinds), "{name}");
     }
 }
 
@@ -81,7 +96,8 @@ fn random_models() {
     assert_eq!(seen.accepted, 712);
     assert!(seen.holds >= 100 && seen.broken >= 100, "{seen:?}");
     assert!(seen.no_core >= 50 && seen.empty_core >= 50 && seen.many_cores >= 10, "{seen:?}");
-    assert!(seen.must >= 50 && seen.longest_trace >= 16, "{seen:?}");
+    assert!(seen.must >= 50 && seen.may >= 100 && seen.irrelevant >= 100, "{seen:?}");
+    assert!(seen.longest_trace >= 16, "{seen:?}");
 }
 
 /// Cores or cuts by the hundred.
@@ -113,7 +129,7 @@ fn long_reports() {
 fn reports_of_several_pages() {
     let program = Program::found();
     for (name, length) in
-        [("bases", 405_455), ("eight_pages", 515_739), ("one_full_page", 65_536), ("two_full_pages", 131_072)]
+        [("bases", 405_609), ("eight_pages", 515_884), ("one_full_page", 65_536), ("two_full_pages", 131_072)]
     {
         let text = sample(&format!("pages/{name}"), "txt");
         let expected = report(&text);
@@ -270,6 +286,8 @@ struct Seen {
     holds: usize,
     broken: usize,
     must: usize,
+    may: usize,
+    irrelevant: usize,
     no_core: usize,
     empty_core: usize,
     many_cores: usize,
@@ -287,6 +305,8 @@ impl Seen {
             holds: 0,
             broken: 0,
             must: 0,
+            may: 0,
+            irrelevant: 0,
             no_core: 0,
             empty_core: 0,
             many_cores: 0,
@@ -323,7 +343,10 @@ impl Seen {
         self.accepted += 1;
         self.holds += usize::from(after("verdict=") == Some("holds"));
         self.broken += usize::from(after("verdict=") == Some("broken"));
-        self.must += usize::from(after("must=") != Some("-"));
+        let has_rules = |key| usize::from(after(key).expect("a set") != "-");
+        self.must += has_rules("must=");
+        self.may += has_rules("may=");
+        self.irrelevant += has_rules("irr=");
         self.no_core += usize::from(number("cores=") == Some(0));
         self.empty_core += usize::from(after("core=") == Some("-"));
         self.many_cores += usize::from(number("cores=") >= Some(10));
@@ -335,8 +358,12 @@ impl Seen {
 
 impl std::fmt::Debug for Seen {
     fn fmt(&self, out: &mut std::fmt::Formatter) -> std::fmt::Result {
-        let Seen { accepted, by_number, last_line, holds, broken, must, .. } = self;
-        write!(out, "{accepted} accepted ({holds} hold, {broken} broken, {must} with MUST rules, ")?;
+        let Seen { accepted, by_number, last_line, holds, broken, must, may, irrelevant, .. } = self;
+        write!(
+            out,
+            "{accepted} accepted ({holds} hold, {broken} broken, {must} with MUST rules, {may} with MAY, "
+        )?;
+        write!(out, "{irrelevant} with irrelevant, ")?;
         let Seen { no_core, empty_core, many_cores, longest_trace, longest_report, .. } = self;
         write!(
             out,

@@ -22,8 +22,10 @@ use Rattle.systems.specs.Verdict.{holds, traceOf}
 use Rattle.cores.specs.declared.which.WhichList.{WhichList}
 use Rattle.codremif.specs.declared.answers.JudgeAnswer.the-variants.{Refused as JudgeRefused, Holds, Broken}
 use Rattle.codremif.specs.declared.answers.ListAnswer.the-variants.{Refused as ListRefused, Count}
-use Rattle.codremif.specs.declared.answers.MustAnswer.the-variants.{Refused as MustRefused, Set}
-use Rattle.codremif.specs.Answers.{Gives, IsRead, placesIn, rulesIn, systemIn, traceIn, listIn, mustIn, textOutcome, judgeOutcome, listOutcome, given, after, verdictOf, judgeAnswer, judgeBytes, listAnswer, listBytes, mustAnswer}
+use Rattle.cores.specs.declared.kinds.Kind.{Kind}
+use Rattle.codremif.specs.declared.answers.SetAnswer.the-variants.{Refused as SetRefused, Set}
+use Rattle.codremif.specs.Answers.{Gives, rulesIn, systemIn, traceIn, listIn, kindIn, textOutcome, judgeOutcome, listOutcome, given, after, verdictOf, judgeAnswer, judgeBytes, listAnswer, listBytes, kindAnswer}
+use Rattle.codremif.specs.AsRead.{IsRead, placesIn}
 
 -- ---- what the reading of a text says
 
@@ -173,9 +175,9 @@ module _ (text : List ℕ) (model : textOutcome text ≡ Accepted) where
       let e = list-numbers which text lent .byNone model l in
       record { says = given-accepted ListRefused _ e; writes = given-accepted _ _ e }
 
-  pub must-given : mustAnswer text ≡ Set (mustIn text)
-  unfolding mustAnswer
-  must-given = given-accepted MustRefused _ model
+  pub kind-given : (kind : Kind) → kindAnswer kind text ≡ Set (kindIn kind text)
+  unfolding kindAnswer
+  kind-given kind = given-accepted SetRefused _ model
 
 -- ---- a refused call changes no lent byte
 

@@ -19,12 +19,12 @@ use Rattle.systems.specs.Judged.{judged}
 use Rattle.cores.specs.declared.which.WhichList.{WhichList}
 use Rattle.codremif.specs.declared.answers.JudgeAnswer.the-variants.{Refused as JudgeRefused}
 use Rattle.codremif.specs.declared.answers.ListAnswer.the-variants.{Refused as ListRefused, Count}
-use Rattle.codremif.specs.declared.answers.MustAnswer.the-variants.{Refused as MustRefused, Set}
-use Rattle.codremif.specs.Answers.{rulesIn, systemIn, traceIn, listIn, mustIn, textOutcome, judgeOutcome, listOutcome, given, after, judgeAnswer, judgeBytes, listAnswer, listBytes, mustAnswer}
-use Rattle.codremif.specs.Packing.{Parts, refused, judgeParts, listParts, mustParts, packed}
+use Rattle.codremif.specs.declared.answers.SetAnswer.the-variants.{Refused as SetRefused, Set}
+use Rattle.codremif.specs.Answers.{rulesIn, systemIn, traceIn, listIn, kindIn, textOutcome, judgeOutcome, listOutcome, given, after, judgeAnswer, judgeBytes, listAnswer, listBytes, kindAnswer}
+use Rattle.codremif.specs.Packing.{Parts, refused, judgeParts, listParts, setParts, packed}
 use Rattle.codremif.specs.Demand1.{JudgeFits, judge-text, set-beyond, trace-longer, ListFits, list-text, list-longer, FirstOf, Refusals, Demand1, HostRefusals, HostDemand1}
 use Rattle.codremif.specs.Laws.Answers.{JudgeNumbers, ListNumbers, judge-numbers, list-numbers, given-refused, given-accepted, refusal-given, not-refused}
-use Rattle.codremif.specs.Laws.Host.{HostReads, judge-reads, list-reads, must-reads}
+use Rattle.codremif.specs.Laws.Host.{HostReads, judge-reads, list-reads, kind-reads}
 
 -- ---- the numbers of a text are 1 to 9
 
@@ -198,14 +198,14 @@ module _ (which : WhichList) (text lent : List ℕ) where
       go e (none-fits n) = list-by-length e n (decLt (length lent) (2 * length (listIn which text)))
       go e (first-fits f) = listed-rightly (numbers-listed .byText _ _ e) (fits-first (text-first (ListFits which text lent) (λ n l g. list-text g) list-out f))
 
--- ---- giving MUST
+-- ---- giving MUST, MAY or the irrelevant rules
 
 text-zero : (text : List ℕ) (number line : ℕ) → FitsAt text number line → 9 < number → line ≡ 0
 text-zero text number line f h = absurd (omega (arith, text-most f))
 
-must-right : (text : List ℕ) → Right (FitsAt text) (textOutcome text)
+text-right : (text : List ℕ) → Right (FitsAt text) (textOutcome text)
 unfolding textOutcome
-must-right text = go (right-outcome text)
+text-right text = go (right-outcome text)
   where
     go : {o : Outcome} → RightOutcome text o → Right (FitsAt text) o
     go (none-fits n) = fits-none n
@@ -272,26 +272,26 @@ module _ (text : List ℕ) where
   count-other : (n number line : ℕ) → ¬ (Count n ≡ ListRefused number line)
   count-other n number line q = let z : _≡_ {A = ℕ} 0 1 = cc in omega arith
 
-  set-other : (S number line : ℕ) → ¬ (Set S ≡ MustRefused number line)
+  set-other : (S number line : ℕ) → ¬ (Set S ≡ SetRefused number line)
   set-other S number line q = let z : _≡_ {A = ℕ} 0 1 = cc in omega arith
 
   pub calls-meet-demand1 : Demand1 text
-  unfolding judgeAnswer judgeBytes listAnswer listBytes mustAnswer judgeParts listParts mustParts
+  unfolding judgeAnswer judgeBytes listAnswer listBytes kindAnswer judgeParts listParts setParts
   calls-meet-demand1 =
-      let m = refusals (text-zero text) MustRefused mustParts (λ n l. refl) _ (set-other (mustIn text)) (λ n l k j q. cc) (must-right text) [] [] in
       record {
         judge = λ S lent.
             refusals (judge-zero text S lent) JudgeRefused judgeParts (λ n l. refl) _ (not-refused (systemIn text S)) (λ n l k j q. cc) (judge-right text S lent) (traceIn text S) lent;
         list = λ which lent.
             refusals (list-zero which text lent) ListRefused listParts (λ n l. refl) _ (count-other (length (listIn which text))) (λ n l k j q. cc) (list-right which text lent)
             (bytesOf (listIn which text)) lent;
-        must = record { first = m .first; accepted = m .accepted; zero = m .zero; kept = λ n l q. refl };
+        kind = λ kind.
+            let r = refusals (text-zero text) SetRefused setParts (λ n l. refl) _ (set-other (kindIn kind text)) (λ n l k j q. cc) (text-right text) [] [] in
+            record { first = r .first; accepted = r .accepted; zero = r .zero; kept = λ n l q. refl };
       }
 
   pub hosts-meet-demand1 : HostDemand1 text
-  unfolding judgeAnswer judgeBytes listAnswer listBytes mustAnswer judgeParts listParts mustParts
+  unfolding judgeAnswer judgeBytes listAnswer listBytes kindAnswer judgeParts listParts setParts
   hosts-meet-demand1 =
-      let m = host-refusals (text-zero text) MustRefused mustParts (λ n l. refl) _ (set-other (mustIn text)) (λ n l k j q. cc) (must-right text) [] [] (must-reads text) in
       record {
         judge = λ S lent.
             host-refusals (judge-zero text S lent) JudgeRefused judgeParts (λ n l. refl) _ (not-refused (systemIn text S)) (λ n l k j q. cc) (judge-right text S lent) (traceIn text S) lent
@@ -299,5 +299,8 @@ module _ (text : List ℕ) where
         list = λ which lent.
             host-refusals (list-zero which text lent) ListRefused listParts (λ n l. refl) _ (count-other (length (listIn which text))) (λ n l k j q. cc) (list-right which text lent)
             (bytesOf (listIn which text)) lent (list-reads which text lent);
-        must = record { accepted = m .accepted; first = m .first; kept = λ n l f. refl };
+        kind = λ kind.
+            let r = host-refusals (text-zero text) SetRefused setParts (λ n l. refl) _ (set-other (kindIn kind text)) (λ n l k j q. cc) (text-right text) [] [] (kind-reads kind text)
+            in
+            record { accepted = r .accepted; first = r .first; kept = λ n l f. refl };
       }

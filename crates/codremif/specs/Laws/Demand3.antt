@@ -6,6 +6,7 @@ use mathlib.Core.Logic.{_↔_, Iff·trans, Iff·symm}
 use mathlib.Core.Bool.{true}
 use mathlib.Core.List.{List}
 use native.Mathlib.Omega.{arith}
+use Rattle.sets.specs.Cores.{Monotone}
 use Rattle.sets.specs.Demand3.{Demand3}
 use Rattle.sets.specs.Laws.Demand3.{demand3}
 use Rattle.models.specs.declared.model.Outcome.the-variants.{Accepted}
@@ -22,11 +23,13 @@ use Rattle.codremif.specs.declared.answers.JudgeAnswer.{JudgeAnswer}
 use Rattle.codremif.specs.declared.answers.JudgeAnswer.the-variants.{Refused as JudgeRefused, Holds, Broken}
 use Rattle.codremif.specs.declared.answers.ListAnswer.{ListAnswer}
 use Rattle.codremif.specs.declared.answers.ListAnswer.the-variants.{Refused as ListRefused}
-use Rattle.codremif.specs.declared.answers.MustAnswer.{MustAnswer}
-use Rattle.codremif.specs.Answers.{rulesIn, systemIn, judgeIn, listIn, mustIn, textOutcome, judgeAnswer, listAnswer, listBytes, after}
-use Rattle.codremif.specs.Packing.{accepted, refused, judgeParts, listParts, mustParts, packed}
+use Rattle.cores.specs.declared.kinds.Kind.the-variants.{Must}
+use Rattle.cores.specs.Kinds.{ofKind}
+use Rattle.codremif.specs.declared.answers.SetAnswer.{SetAnswer}
+use Rattle.codremif.specs.Answers.{rulesIn, systemIn, judgeIn, listIn, kindIn, textOutcome, judgeAnswer, listAnswer, listBytes, after}
+use Rattle.codremif.specs.Packing.{accepted, refused, judgeParts, listParts, setParts, packed}
 use Rattle.codremif.specs.Demand3.{inRattle, forHosts, Asked, GivesList, TextDemand3, AsCalled, hostAsked}
-use Rattle.codremif.specs.Laws.Answers.{list-numbers, list-enough, must-given, given-refused}
+use Rattle.codremif.specs.Laws.Answers.{list-numbers, list-enough, kind-given, given-refused}
 use Rattle.codremif.specs.Laws.Demand2.{judging-meets-demand2}
 use Rattle.codremif.specs.Laws.Host.{judge-reads}
 
@@ -47,6 +50,11 @@ holds-packed text S lent = (go (judgeAnswer text S lent) refl, λ e. ap (λ a. p
         let short = ap (λ a. judgeParts a .line) q in
         absurd (omega (arith, r .number, r .line))
 
+-- By the judgement of a text's sets, a set holds if a part of it does.
+pub monotone-in : (text : List ℕ) → Monotone (rulesIn text) (judgeIn text)
+unfolding rulesIn judgeIn
+monotone-in text = judge-monotone (modelIn text)
+
 module _ (text : List ℕ) (model : textOutcome text ≡ Accepted) where
   by-runs : (S : ℕ) → S < 2 ^ rulesIn text → (judgeIn text S ≡ true) ↔ ((run : List ℕ) → Breach (systemIn text S) run → ⊥)
   unfolding judgeIn judge systemIn
@@ -55,12 +63,13 @@ module _ (text : List ℕ) (model : textOutcome text ≡ Accepted) where
     λ none. judged (systemIn text S) .verdict .1 (no-breach-holds none),
   )
 
-  by-call : (S : ℕ) → S < 2 ^ rulesIn text → (lent : List ℕ) → (judgeIn text S ≡ true) ↔ (judgeAnswer text S lent ≡ Holds)
+  -- A set holds exactly when judging it answers so.
+  pub by-call : (S : ℕ) → S < 2 ^ rulesIn text → (lent : List ℕ) → (judgeIn text S ≡ true) ↔ (judgeAnswer text S lent ≡ Holds)
   by-call S l lent = Iff·trans (by-runs S l) (Iff·symm (judging-meets-demand2 text model S l lent .held))
 
-  the-lists : Demand3 (rulesIn text) (judgeIn text) (listIn Cores text) (listIn Cuts text) (mustIn text)
-  unfolding listIn listed mustIn rulesIn judgeIn
-  the-lists = demand3 (rulesIn text) (judgeIn text) (judge-monotone (modelIn text))
+  the-lists : Demand3 (rulesIn text) (judgeIn text) (listIn Cores text) (listIn Cuts text) (kindIn Must text)
+  unfolding listIn listed kindIn ofKind
+  the-lists = demand3 (rulesIn text) (judgeIn text) (monotone-in text)
 
   list-given : (which : WhichList) (lent : List ℕ) → GivesList inRattle (listIn which text) lent (listAnswer which text lent) (listBytes which text lent)
   unfolding inRattle listAnswer listBytes after
@@ -85,31 +94,31 @@ module _ (text : List ℕ) (model : textOutcome text ≡ Accepted) where
       }
 
   -- What was given as called is what demand 3 asks for.
-  pub calls-meet-demand3 : {a : Asked ListAnswer MustAnswer} → AsCalled text a → TextDemand3 inRattle text a
+  pub calls-meet-demand3 : {a : Asked ListAnswer SetAnswer} → AsCalled text a → TextDemand3 inRattle text a
   unfolding inRattle
   calls-meet-demand3 {a} c = record {
     judgement = judgeIn text;
     judged = record { byRuns = by-runs; byCall = by-call };
     cores = listIn Cores text;
     cuts = listIn Cuts text;
-    must = mustIn text;
+    must = kindIn Must text;
     demanded = the-lists;
     coresGiven = rw (c .cores, c .coresWritten) (list-given Cores (a .coresLent));
     cutsGiven = rw (c .cuts, c .cutsWritten) (list-given Cuts (a .cutsLent));
-    mustGiven = c .must ∙ must-given text model;
+    mustGiven = c .must ∙ kind-given text model Must;
   }
 
   -- So is what the exported calls give.
   pub hosts-meet-demand3 : (coresLent cutsLent : List ℕ) → TextDemand3 forHosts text (hostAsked text coresLent cutsLent)
-  unfolding forHosts hostAsked packed mustParts accepted
+  unfolding forHosts hostAsked packed setParts accepted
   hosts-meet-demand3 coresLent cutsLent = record {
     judgement = judgeIn text;
     judged = record { byRuns = by-runs; byCall = λ S l lent. Iff·trans (by-call S l lent) (Iff·symm (holds-packed text S lent)) };
     cores = listIn Cores text;
     cuts = listIn Cuts text;
-    must = mustIn text;
+    must = kindIn Must text;
     demanded = the-lists;
     coresGiven = list-packed Cores coresLent;
     cutsGiven = list-packed Cuts cutsLent;
-    mustGiven = ap (λ a. packed (mustParts a)) (must-given text model) ∙ omega arith;
+    mustGiven = ap (λ a. packed (setParts a)) (kind-given text model Must) ∙ omega arith;
   }

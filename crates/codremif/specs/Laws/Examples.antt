@@ -21,10 +21,11 @@ use Rattle.systems.specs.Judged.{judged}
 use Rattle.cores.specs.declared.which.WhichList.{WhichList}
 use Rattle.cores.specs.declared.which.WhichList.the-variants.{Cores, Cuts}
 use Rattle.codremif.specs.declared.answers.JudgeAnswer.the-variants.{Holds, Broken}
-use Rattle.codremif.specs.declared.answers.MustAnswer.the-variants.{Set}
-use Rattle.codremif.specs.Answers.{rulesIn, systemIn, traceIn, listIn, mustIn, textOutcome, verdictOf}
+use Rattle.cores.specs.declared.kinds.Kind.the-variants.{Must}
+use Rattle.codremif.specs.declared.answers.SetAnswer.the-variants.{Set}
+use Rattle.codremif.specs.Answers.{rulesIn, systemIn, traceIn, listIn, kindIn, textOutcome, verdictOf}
 use Rattle.codremif.specs.Examples.{Case, table, verdictFor, expectedList, Answered}
-use Rattle.codremif.specs.Laws.Answers.{judge-enough, list-enough, must-given}
+use Rattle.codremif.specs.Laws.Answers.{judge-enough, list-enough, kind-given}
 
 -- What is computed from the text of a case, and what the table expects.
 record Meaning : Type 0 where
@@ -36,14 +37,14 @@ record Meaning : Type 0 where
   must : ℕ
 
 computed : Case → Meaning
-unfolding textOutcome rulesIn traceIn listIn mustIn
+unfolding textOutcome rulesIn traceIn listIn kindIn
 computed c = record {
   model = textOutcome (c .text);
   sets = map (λ j. ltb (j .set) (2 ^ rulesIn (c .text))) (c .judged);
   traces = map (λ j. traceIn (c .text) (j .set)) (c .judged);
   cores = listIn Cores (c .text);
   cuts = listIn Cuts (c .text);
-  must = mustIn (c .text);
+  must = kindIn Must (c .text);
 }
 
 expected : Case → Meaning
@@ -87,7 +88,7 @@ answered c e = record {
         writes = r .writes ∙ ap (λ t. overwritten t lent) trace;
       };
   lists = λ which lent h. rw (lists which) at (list-enough (c .text) model which lent (rw (lists which) h));
-  must = must-given (c .text) model ∙ ap Set (ap (λ x. x .must) e);
+  must = kind-given (c .text) model Must ∙ ap Set (ap (λ x. x .must) e);
 }
   where
     model : textOutcome (c .text) ≡ Accepted

@@ -1,5 +1,5 @@
 -- What a C host can read from the one number that a call gives it: every part of the answer, and by number 0 whether the call was accepted.
--- From the ranges of the parts: a trace has at most 128 states, a list at most 2^16 sets, MUST is below 2^16; and from one bound on the numbers
+-- From the ranges of the parts: a trace has at most 128 states, a list at most 2^16 sets, a set of rules is below 2^16; and from one bound on the numbers
 -- and lines of refusals, below 256. Assumes nothing.
 use Prim.Native.Nat.{ℕ, zero, suc, _*_, _^_, _≤_, _<_}
 use mathlib.Core.Path.{_≡_, refl}
@@ -14,6 +14,7 @@ use lib.Pow.{pow-mono}
 use Rattle.sets.specs.Lists.{joined, oneIf, select, listOf, coresOf, cutsOf, bytesOf}
 use Rattle.sets.specs.Laws.Growth.{length-listOf}
 use Rattle.sets.specs.Laws.Must.{must-below}
+use Rattle.sets.specs.Laws.Kinds.{may-below, irrelevant-below}
 use Rattle.models.specs.declared.model.Outcome.{Outcome}
 use Rattle.models.specs.declared.model.Outcome.the-variants.{Accepted, Refused}
 use Rattle.models.specs.Reading.{readModel}
@@ -24,11 +25,14 @@ use Rattle.semantics.specs.Meaning.{systemOf}
 use Rattle.cores.specs.declared.which.WhichList.{WhichList}
 use Rattle.cores.specs.declared.which.WhichList.the-variants.{Cores, Cuts}
 use Rattle.cores.specs.Which.{listed}
+use Rattle.cores.specs.declared.kinds.Kind.{Kind}
+use Rattle.cores.specs.declared.kinds.Kind.the-variants.{Must, May, Irrelevant}
+use Rattle.cores.specs.Kinds.{ofKind}
 use Rattle.codremif.specs.declared.answers.JudgeAnswer.the-variants.{Refused as JudgeRefused, Holds, Broken}
 use Rattle.codremif.specs.declared.answers.ListAnswer.the-variants.{Refused as ListRefused}
-use Rattle.codremif.specs.declared.answers.MustAnswer.the-variants.{Refused as MustRefused}
-use Rattle.codremif.specs.Answers.{rulesIn, systemIn, judgeIn, traceIn, listIn, mustIn, _orElse_, refusedIf, textOutcome, judgeOutcome, listOutcome, given, verdictOf, judgeAnswer, listAnswer, mustAnswer}
-use Rattle.codremif.specs.Packing.{InRange, Parts, accepted, refused, judgeParts, listParts, mustParts, packed, Unpacked}
+use Rattle.codremif.specs.declared.answers.SetAnswer.the-variants.{Refused as SetRefused}
+use Rattle.codremif.specs.Answers.{rulesIn, systemIn, judgeIn, traceIn, listIn, kindIn, _orElse_, refusedIf, textOutcome, judgeOutcome, listOutcome, given, verdictOf, judgeAnswer, listAnswer, kindAnswer}
+use Rattle.codremif.specs.Packing.{InRange, Parts, accepted, refused, judgeParts, listParts, setParts, packed, Unpacked}
 use Rattle.codremif.specs.Laws.Answers.{vars-most, rules-most}
 use Rattle.codremif.specs.Laws.Packing.{unpacked}
 
@@ -102,9 +106,11 @@ unfolding listIn listed coresOf cutsOf
 list-le Cores text = list-length (rulesIn text) _ (rules-most text)
 list-le Cuts text = list-length (rulesIn text) _ (rules-most text)
 
-pub must-lt : (text : List ℕ) → mustIn text < 2 ^ rulesIn text
-unfolding mustIn
-must-lt text = must-below (rulesIn text) (judgeIn text)
+pub kind-lt : (kind : Kind) (text : List ℕ) → kindIn kind text < 2 ^ rulesIn text
+unfolding kindIn ofKind
+kind-lt Must text = must-below (rulesIn text) (judgeIn text)
+kind-lt May text = may-below (rulesIn text) (judgeIn text)
+kind-lt Irrelevant text = irrelevant-below (rulesIn text) (judgeIn text)
 
 -- ---- what the host reads
 
@@ -149,8 +155,8 @@ list-reads which text lent =
     given-reads ListRefused listParts (λ number line. refl) _
     (accepted-reads (length (listIn which text)) false (omega (arith, list-le which text))) (list-numbered which text lent)
 
-pub must-reads : (text : List ℕ) → HostReads (textOutcome text) (mustParts (mustAnswer text))
-unfolding mustAnswer mustParts
-must-reads text =
-    given-reads MustRefused mustParts (λ number line. refl) _
-    (accepted-reads (mustIn text) false (omega (arith, must-lt text, pow-mono (rules-most text)))) (text-numbered text)
+pub kind-reads : (kind : Kind) (text : List ℕ) → HostReads (textOutcome text) (setParts (kindAnswer kind text))
+unfolding kindAnswer setParts
+kind-reads kind text =
+    given-reads SetRefused setParts (λ number line. refl) _
+    (accepted-reads (kindIn kind text) false (omega (arith, kind-lt kind text, pow-mono (rules-most text)))) (text-numbered text)

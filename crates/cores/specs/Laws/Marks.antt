@@ -4,17 +4,19 @@ use Prim.Native.Nat.{ℕ, _+_, _-_, _*_, _/_, _%_, _^_, _≤_, _<_}
 use mathlib.Core.Path.{_≡_, sym, ap, _∙_}
 use mathlib.Core.Logic.{_⊎_, inl, inr, ⊎-elim}
 use mathlib.Core.Bool.{Bool, false, cond, _&&_}
-use mathlib.Core.List.{List}
+use mathlib.Core.List.{List, _++_}
 use native.Mathlib.Omega.{arith}
 use native.Mathlib.Decide.{ℕ-discrete, decLt}
 use borrow.Author.Tests.{eq-eqb, ne-eqb, lt-ltb, le-ltb}
 use lib.Dec.{eqb, ltb}
-use lib.ListN.{length, getD, set, replicate, length-replicate, getD-replicate}
+use lib.ListN.{length, getD, set, replicate, drop, length-replicate, getD-replicate, length-append, List·getD-append}
 use lib.Pow.{pow-add, pow-mono}
 use lib.Seq.{getD-set-same, getD-set-other}
 use Rattle.sets.specs.Bit.{has}
-use Rattle.sets.specs.Laws.Gathered.{has-setOf, is-setOf}
-use Rattle.sets.specs.Laws.Tabulated.{length-tabulate, getD-tabulate, tabulated}
+use Rattle.sets.specs.Lists.{listOf, overwritten}
+use Rattle.sets.specs.Laws.Growth.{listOf-agree}
+use Rattle.sets.specs.Laws.Gathered.{has-setOf, is-setOf, setOf-same}
+use Rattle.sets.specs.Laws.Tabulated.{length-tabulate, getD-tabulate, tabulated, same-entries}
 use Rattle.cores.specs.Marks.{marked, wordBy, tableBy, Room, NonePast, Marks, Changed}
 
 -- One word is stored.
@@ -95,3 +97,39 @@ module _ (R : ℕ) (p : ℕ → Bool) where
       ap (λ (x : ℕ). has x (S % 64)) (getD-tabulate ((2 ^ R + 63) / 64) (wordBy R p) 0 (S / 64) (omega arith))
       ∙ has-setOf 64 (λ t. ltb (64 * (S / 64) + t) (2 ^ R) && p (64 * (S / 64) + t)) (S % 64) (omega arith)
       ∙ rw (whole, lt-ltb S (2 ^ R) l)
+
+  pub length-tableBy : length (tableBy R p) ≡ (2 ^ R + 63) / 64
+  unfolding tableBy
+  length-tableBy = length-tabulate ((2 ^ R + 63) / 64) (wordBy R p)
+
+-- Tests that agree on the sets of R rules have the same table.
+pub tableBy-agree : (R : ℕ) (p q : ℕ → Bool) → ((S : ℕ) → S < 2 ^ R → p S ≡ q S) → tableBy R p ≡ tableBy R q
+unfolding tableBy
+tableBy-agree R p q same =
+    same-entries ((2 ^ R + 63) / 64) (wordBy R p) (wordBy R q)
+    (λ w _.
+    setOf-same 64 (λ t. ltb (64 * w + t) (2 ^ R) && p (64 * w + t)) (λ t. ltb (64 * w + t) (2 ^ R) && q (64 * w + t)) (λ t _. at (64 * w + t) (decLt (64 * w + t) (2 ^ R))))
+  where
+    at : (S : ℕ) → Dec (S < 2 ^ R) → (ltb S (2 ^ R) && p S) ≡ (ltb S (2 ^ R) && q S)
+    at S (yes l) = ap (λ b. ltb S (2 ^ R) && b) (same S l)
+    at S (no n) = rw (le-ltb S (2 ^ R) (omega arith))
+
+-- ---- a table over the front of lent words
+
+module _ (R : ℕ) (p : ℕ → Bool) (lent : List ℕ) where
+  pub front-room : Room R lent → Room R (overwritten (tableBy R p) lent)
+  unfolding overwritten
+  front-room r =
+      record {
+        few = r .few;
+        room = omega (arith, length-append (tableBy R p) (drop (length (tableBy R p)) lent), tableBy-room R p (r .few) .room);
+      }
+
+  pub front-listed : listOf R (marked (overwritten (tableBy R p) lent)) ≡ listOf R p
+  unfolding overwritten marked
+  front-listed = listOf-agree R (marked (tableBy R p ++ drop (length (tableBy R p)) lent)) p at
+    where
+      at : (S : ℕ) → S < 2 ^ R → marked (tableBy R p ++ drop (length (tableBy R p)) lent) S ≡ p S
+      at S l =
+          ap (λ (x : ℕ). has x (S % 64)) (List·getD-append (tableBy R p) (drop (length (tableBy R p)) lent) 0 (S / 64) (omega (arith, length-tableBy R p)))
+          ∙ tableBy-marks R p S l

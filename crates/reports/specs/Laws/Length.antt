@@ -2,7 +2,7 @@
 -- report. From the ranges of what is read, the lengths of names, traces and lists. The bound is a rough one: a number is given as many digits as it is great, and one.
 use Prim.Native.Nat.{ℕ, zero, suc, _+_, _*_, _/_, _%_, _≤_, _<_}
 use mathlib.Core.Path.{_≡_, refl, ap}
-use mathlib.Core.Bool.{false}
+use mathlib.Core.Bool.{Bool, false}
 use mathlib.Core.List.{List, [], _∷_, _++_, map, flatMap}
 use native.Mathlib.Omega.{arith}
 use native.Mathlib.Decide.{decLt}
@@ -11,7 +11,7 @@ use lib.Dec.{ltb}
 use lib.ListN.{length, getD, length-append, List·getD-eq-default}
 use lib.Pow.{pow-mono}
 use Rattle.sets.specs.Bit.{has, full}
-use Rattle.sets.specs.Lists.{select, mustOf}
+use Rattle.sets.specs.Lists.{select}
 use Rattle.sets.specs.Laws.Choice.{by-test}
 use Rattle.exprs.specs.Expr.{constant}
 use Rattle.lines.specs.Bytes.{bytes}
@@ -29,13 +29,16 @@ use Rattle.systems.specs.Judged.{judged}
 use Rattle.semantics.specs.Meaning.{systemOf, judge}
 use Rattle.cores.specs.declared.which.WhichList.{WhichList}
 use Rattle.cores.specs.declared.which.WhichList.the-variants.{Cores, Cuts}
+use Rattle.cores.specs.declared.kinds.Kind.the-variants.{Must, May, Irrelevant}
+use Rattle.cores.specs.Kinds.{ofKind}
 use Rattle.cores.specs.Which.{listed}
 use Rattle.codremif.specs.Answers.{rulesIn, judgeIn, listIn, textOutcome}
 use Rattle.codremif.specs.Laws.Answers.{vars-most}
 use Rattle.codremif.specs.Laws.Host.{select-length, list-le}
 use Rattle.reports.specs.Page.{pagesFrom}
+use Rattle.reports.specs.Laws.Report.{set-text}
 use Rattle.reports.specs.Laws.Page.{pages-are-the-text}
-use Rattle.reports.specs.Report.{numberLine, separated, nameIn, namesOf, setLine, verdictLines, countKey, setKey, listLines, modelReport, refusalReport, reportOn, reportOf}
+use Rattle.reports.specs.Report.{numberLine, separated, nameIn, setText, setLine, verdictLines, countKey, setKey, listLines, modelReport, refusalReport, reportOn, reportOf, kindLines}
 
 -- ---- numbers
 
@@ -86,9 +89,9 @@ module _ (M : Described) (legal : Legal M) where
           omega (arith, ap (λ (r : Rule). length (r .name)) none)
 
   set-length : (key : List ℕ) (S : ℕ) → length (setLine M key S) ≤ length key + 146
-  unfolding setLine namesOf
+  unfolding setLine
   set-length key S =
-      omega (arith, length-line key (namesOf M S), separated-length (nameIn M) name-length (select (has S) (length (M .rules))), select-length (has S) (length (M .rules)), legal .count .atMost)
+      omega (arith, length-line key (setText M S), ap length (set-text M S), separated-length (nameIn M) name-length (select (has S) (length (M .rules))), select-length (has S) (length (M .rules)), legal .count .atMost)
 
   -- ---- the parts of a report
 
@@ -96,6 +99,15 @@ module _ (M : Described) (legal : Legal M) where
   unfolding countKey
   count-key Cores = omega arith
   count-key Cuts = omega arith
+
+  kinds-length : (h : ℕ → Bool) → length (kindLines M h) ≤ 453
+  unfolding kindLines
+  kinds-length h =
+      let R : ℕ = length (M .rules) in
+      let must : List ℕ = setLine M (bytes "must=") (ofKind Must R h) in
+      let may : List ℕ = setLine M (bytes "may=") (ofKind May R h) in
+      let irrelevant : List ℕ = setLine M (bytes "irr=") (ofKind Irrelevant R h) in
+      omega (arith, length-append must (may ++ irrelevant), length-append may irrelevant, set-length (bytes "must=") (ofKind Must R h), set-length (bytes "may=") (ofKind May R h), set-length (bytes "irr=") (ofKind Irrelevant R h))
 
   set-key : (which : WhichList) → length (setKey which) ≤ 5
   unfolding setKey
@@ -146,10 +158,10 @@ module _ (text : List ℕ) where
       let M : Described = modelIn text in
       let R : ℕ = length (M .rules) in
       let verdict : List ℕ = verdictLines (systemOf M (full R)) in
-      let must : List ℕ = setLine M (bytes "must=") (mustOf R (judge M)) in
+      let kinds : List ℕ = kindLines M (judge M) in
       let cores : List ℕ = listLines M Cores (listed Cores R (judge M)) in
       let cuts : List ℕ = listLines M Cuts (listed Cuts R (judge M)) in
-      omega (arith, length-append verdict (must ++ (cores ++ cuts)), length-append must (cores ++ cuts), length-append cores cuts, verdict-length (systemOf M (full R)) (few-states (full R)), set-length M (is-legal e) (bytes "must=") (mustOf R (judge M)), list-length M (is-legal e) Cores (listed Cores R (judge M)) (few-sets Cores), list-length M (is-legal e) Cuts (listed Cuts R (judge M)) (few-sets Cuts))
+      omega (arith, length-append verdict (kinds ++ (cores ++ cuts)), length-append kinds (cores ++ cuts), length-append cores cuts, verdict-length (systemOf M (full R)) (few-states (full R)), kinds-length M (is-legal e) (judge M), list-length M (is-legal e) Cores (listed Cores R (judge M)) (few-sets Cores), list-length M (is-legal e) Cuts (listed Cuts R (judge M)) (few-sets Cuts))
 
   -- No report has more than 2^25 bytes.
   pub report-length : length (reportOf text) ≤ 33554432

@@ -100,7 +100,7 @@ breaks-monotone R h mono =
           ∙ breaks-iff R h S .0 e)));
     }
 
-breaks-cut : (R : ℕ) (h : ℕ → Bool) (S : ℕ) → S < 2 ^ R → Cut R (breaks R h) S ↔ Core h S
+pub breaks-cut : (R : ℕ) (h : ℕ → Bool) (S : ℕ) → S < 2 ^ R → Cut R (breaks R h) S ↔ Core h S
 unfolding Core Cut breaks
 breaks-cut R h S l =
     least-agree (λ T. breaks R h (full R - T) ≡ false) (λ T. h T ≡ true) S

@@ -49,7 +49,8 @@ listOf-agree R p q h =
     joined-agree (λ S. oneIf (sized p size S) S) (λ S. oneIf (sized q size S) S) (2 ^ R)
     (λ S l. ap (λ b. oneIf (eqb (ones S) size && b) S) (h S l)))
 
-isCore-agree : (R : ℕ) (g h : ℕ → Bool) → ((S : ℕ) → S < 2 ^ R → g S ≡ h S) → (S : ℕ) → S < 2 ^ R → isCore g S ≡ isCore h S
+-- Judgements that agree on the sets of R rules have the same cores and the same cuts.
+pub isCore-agree : (R : ℕ) (g h : ℕ → Bool) → ((S : ℕ) → S < 2 ^ R → g S ≡ h S) → (S : ℕ) → S < 2 ^ R → isCore g S ≡ isCore h S
 unfolding Core
 isCore-agree R g h e S l =
     let same =
@@ -59,14 +60,18 @@ isCore-agree R g h e S l =
     alike (isCore g S) (isCore h S) (λ m. isCore-iff h S .1 (same .0 (isCore-iff g S .0 m)))
     (λ m. isCore-iff g S .1 (same .1 (isCore-iff h S .0 m)))
 
--- Judgements that agree on the sets of R rules have the same core list, and the same cut list.
+pub isCut-agree : (R : ℕ) (g h : ℕ → Bool) → ((S : ℕ) → S < 2 ^ R → g S ≡ h S) → (S : ℕ) → S < 2 ^ R → isCut R g S ≡ isCut R h S
+unfolding isCut isCore breaks
+isCut-agree R g h same = isCore-agree R (breaks R g) (breaks R h) (λ S l. ap not (same (full R - S) (omega (arith, pow-pos R))))
+
+-- So they have the same core list, and the same cut list.
 pub coresOf-agree : (R : ℕ) (g h : ℕ → Bool) → ((S : ℕ) → S < 2 ^ R → g S ≡ h S) → coresOf R g ≡ coresOf R h
 unfolding coresOf
 coresOf-agree R g h e = listOf-agree R (isCore g) (isCore h) (isCore-agree R g h e)
 
 pub cutsOf-agree : (R : ℕ) (g h : ℕ → Bool) → ((S : ℕ) → S < 2 ^ R → g S ≡ h S) → cutsOf R g ≡ cutsOf R h
-unfolding cutsOf isCut coresOf isCore breaks
-cutsOf-agree R g h same = coresOf-agree R (breaks R g) (breaks R h) (λ S l. ap not (same (full R - S) (omega (arith, pow-pos R))))
+unfolding cutsOf
+cutsOf-agree R g h same = listOf-agree R (isCut R g) (isCut R h) (isCut-agree R g h same)
 
 -- ---- the length of the list by size
 

@@ -129,16 +129,20 @@ ascending-listOf R q =
     let f = sized-iff q k T .0 (mem-select (sized q k) (2 ^ R) T .0 t .1) in
     fewer (omega arith))
 
-ascending-at : (l : List ℕ) → Ascending l → (i j : ℕ) → i < j → j < length l → Before (getD l i 0) (getD l j 0)
+-- The same place by place, and then no set stands at two places.
+abbrev pub Ordered : List ℕ → Type 0
+Ordered l = (i j : ℕ) → i < j → j < length l → Before (getD l i 0) (getD l j 0)
+
+ascending-at : (l : List ℕ) → Ascending l → Ordered l
 ascending-at [] a i j h b = absurd (omega arith)
 ascending-at (S ∷ l) a i zero h b = absurd (omega arith)
 ascending-at (S ∷ l) a zero (suc j) h b = a .0 (getD l j 0) (at-place l j (omega arith))
 ascending-at (S ∷ l) a (suc i) (suc j) h b = ascending-at l (a .1) i j (omega arith) (omega arith)
 
-ascending-once : (l : List ℕ) → Ascending l → (i j : ℕ) → i < length l → j < length l → getD l i 0 ≡ getD l j 0 → i ≡ j
-ascending-once l a i j hi hj e =
-    let notBefore : ¬ (i < j) = λ h. before-irrefl (getD l j 0) (rw e at (ascending-at l a i j h hj)) in
-    let notAfter : ¬ (j < i) = λ h. before-irrefl (getD l j 0) (rw e at (ascending-at l a j i h hi)) in
+pub order-once : (l : List ℕ) → Ordered l → (i j : ℕ) → i < length l → j < length l → getD l i 0 ≡ getD l j 0 → i ≡ j
+order-once l o i j hi hj e =
+    let notBefore : ¬ (i < j) = λ h. before-irrefl (getD l j 0) (rw e at (o i j h hj)) in
+    let notAfter : ¬ (j < i) = λ h. before-irrefl (getD l j 0) (rw e at (o j i h hi)) in
     omega arith
 
 -- ---- the laws of the lists
@@ -149,7 +153,7 @@ listOf-lists R q =
     record {
       each = λ S p. mem-listOf R q S .1 (p .rules, p .itself);
       only = λ S m. let p = mem-listOf R q S .0 m in record { rules = p .0; itself = p .1 };
-      once = ascending-once (listOf R q) (ascending-listOf R q);
+      once = order-once (listOf R q) (ascending-at (listOf R q) (ascending-listOf R q));
       order = ascending-at (listOf R q) (ascending-listOf R q);
     }
 

@@ -38,7 +38,7 @@ has-meet (U ∷ l) S i = (
       (λ T m. f T (List·Memᴰ·tail (List·Memᴰ·tail m)))),
 )
 
-has-common : (l : List ℕ) (i : ℕ)
+pub has-common : (l : List ℕ) (i : ℕ)
     → (has (common l) i ≡ true) ↔ (((S : ℕ) × (S ∈ l)) × ((T : ℕ) → T ∈ l → has T i ≡ true))
 unfolding common
 has-common [] i = (λ e. absurd (has-zero i e), λ p. absurd (List·Memᴰ·not-nil (p .0 .1)))

@@ -4,6 +4,7 @@ use Prim.Native.Nat.{ℕ, _^_, _<_}
 use mathlib.Core.Path.{_≡_, refl, sym, _∙_}
 use mathlib.Core.Logic.{_↔_}
 use mathlib.Core.Bool.{Bool, true, false, true≢false}
+use mathlib.Mathlib.Data.Bool.Basic.{eq-true-of-not-eq-false}
 use native.Mathlib.Omega.{arith}
 use lib.Pow.{ones-lt}
 use Rattle.sets.specs.Bit.{has, full}
@@ -58,6 +59,11 @@ module _ (R : ℕ) (h : ℕ → Bool) (mono : Monotone R h) where
       inCore n C l c false e =
           absurd (true≢false
           (sym (mono .more C (without (full R) i) (without-below i) (lacking C i l e) (c .itself)) ∙ n .broken))
+
+  -- Where the full set holds, it holds without a rule outside MUST.
+  pub spared : h (full R) ≡ true → (i : ℕ) → i < R → has (mustOf R h) i ≡ false → h (without (full R) i) ≡ true
+  spared all i l n =
+      eq-true-of-not-eq-false (λ q. true≢false (sym (must-rules i .1 (all, record { below = l; broken = q })) ∙ n))
 
   -- Where the full set holds, a set that has exactly the needed rules is MUST.
   pub must-needed : h (full R) ≡ true → (M : ℕ) → ((i : ℕ) → (has M i ≡ true) ↔ Needed R h i) → M ≡ mustOf R h

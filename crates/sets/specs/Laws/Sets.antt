@@ -1,13 +1,13 @@
 -- A part and a shared rule are what code computes of them, and what the order of the lists needs.
 -- From the rules that a number has (`Laws.Bit`).
 use Prim.Native.Nat.{ℕ, _+_, _-_, _/_, _%_, _^_, _≤_, _<_}
-use mathlib.Core.Path.{_≡_, refl, sym, ap, _∙_}
+use mathlib.Core.Path.{_≡_, refl, sym, ap, subst, _∙_}
 use mathlib.Core.Logic.{_↔_, _≢_, _⊎_, inl, inr, ⊎-elim}
 use mathlib.Core.Bool.{true, _&&_, and-eq-true-iff}
 use native.Mathlib.Omega.{arith}
 use native.Mathlib.Decide.{decLt}
 use native.Mathlib.Nat.{mod-lt}
-use lib.Bits.{bitAnd, and-le-r}
+use lib.Bits.{bitAnd, and-le-r, and-comm}
 use lib.Pow.{pow-pos, lt-of-le-ones}
 use borrow.Author.Tests.{eqb-true, eq-eqb}
 use Rattle.sets.specs.Laws.Choice.{alike}
@@ -49,6 +49,15 @@ part-iff S T = (
       (part-antisym (record { every = λ i m. has-and S T i .0 m .0 })
       (record { every = λ i m. has-and S T i .1 (m, p .every i m) })),
 )
+
+-- What a part has in common with the whole is the part; so the rules that are left of the whole without it are found by number.
+pub part-and : {S T : ℕ} → S ⊑ T → bitAnd S T ≡ S
+unfolding part
+part-and {S} {T} p = eqb-true (bitAnd S T) S (part-iff S T .1 p)
+
+pub has-less : {S T : ℕ} → T ⊑ S → (i : ℕ) → (has (S - T) i ≡ true) ↔ ((has S i ≡ true) × (¬ (has T i ≡ true)))
+has-less {S} {T} p i =
+    subst (λ (U : ℕ). (has (S - U) i ≡ true) ↔ ((has S i ≡ true) × (¬ (has T i ≡ true)))) (and-comm S T ∙ part-and p) (has-minus S T i)
 
 -- A part is told by the first n rules, and by the others.
 pub part-split : (n S T : ℕ) → part S T ≡ (part (S / 2 ^ n) (T / 2 ^ n) && part (S % 2 ^ n) (T % 2 ^ n))

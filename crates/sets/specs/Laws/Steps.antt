@@ -3,15 +3,10 @@
 use Prim.Native.Nat.{ℕ, zero, suc, _+_, _-_, _/_, _%_, _≤_, _<_}
 use mathlib.Core.Path.{_≡_, refl}
 use native.Mathlib.Omega.{arith}
-use borrow.Author.Tests.{eqb-true}
 use lib.Arith.{bin-ind}
 use lib.Bits.{bitAnd, bitOr, and-step, or-step, and-zero-r, and-comm, or-add-and}
-use Rattle.sets.specs.Sets.{_⊑_, part}
-use Rattle.sets.specs.Laws.Sets.{part-iff}
-
-part-and : {S T : ℕ} → S ⊑ T → bitAnd S T ≡ S
-unfolding part
-part-and {S} {T} p = eqb-true (bitAnd S T) S (part-iff S T .1 p)
+use Rattle.sets.specs.Sets.{_⊑_}
+use Rattle.sets.specs.Laws.Sets.{part-and}
 
 up : (T S U : ℕ) → bitAnd S T ≡ S → bitAnd S U ≡ S → T < U → bitOr (T + 1) S ≤ U
 up =

@@ -1,4 +1,4 @@
-//! Times the four calls of the library next to the plain search, on fixed models.
+//! Times the calls of the library next to the plain search, on fixed models.
 //!
 //! `bench [FOLDER]`: with a folder, its *.txt models come first. The generated models are the same in every run. Each
 //! time is the median of several runs, and each answer of the library is compared with that of the plain search.
@@ -11,7 +11,7 @@ use std::time::{Duration, Instant};
 use codremif_host::calls;
 use codremif_host::judgements;
 use codremif_host::plain::answers::{judge, write_list};
-use codremif_host::plain::sets::{must, Verdicts};
+use codremif_host::plain::sets::{irrelevant, may, must, Verdicts};
 use codremif_host::plain::system::TransitionSystem;
 use codremif_host::plain::text::{self, Model};
 use codremif_host::random::models::{full_counter, model_of, Kind};
@@ -23,15 +23,15 @@ const TIME_FOR_RUNS: Duration = Duration::from_millis(60);
 const FEWEST_RUNS: usize = 3;
 const MOST_RUNS: usize = 201;
 
-/// Enough for the trace and for every list: no list of sets without a part of another has more than 12,870 of them.
-const LENT: usize = 2 * 12_870;
-
 fn main() {
     let folder = std::env::args().nth(1);
     if let Some(folder) = &folder {
         table("Sample models", sample_models(Path::new(folder)));
     }
-    table("Smallest models", (1..=4).flat_map(|bits| (1..=3).map(move |rules| growing(bits, rules))).collect());
+    table(
+        "Smallest models",
+        (1..=4).flat_map(|bits| (1..=3).map(move |rules| growing(bits, rules))).collect(),
+    );
     table("Largest models: 7 bits, 16 rules", largest_models());
     table("Growing N, 16 rules", (1..=7).map(|bits| growing(bits, 16)).collect());
     table("Growing R, 7 bits", (1..=16).map(|rules| growing(7, rules)).collect());
@@ -110,7 +110,7 @@ fn growing(bits: usize, rules: usize) -> Case {
 fn table(title: &str, cases: Vec<Case>) {
     println!("{title}");
     println!(
-        "{:<22} {:>1} {:>2} {:>5} {:>5} {:>6} |{} |{} |{} |{}",
+        "{:<22} {:>1} {:>2} {:>5} {:>5} {:>6} |{} |{} |{} |{} |{} |{}",
         "model",
         "N",
         "R",
@@ -120,7 +120,9 @@ fn table(title: &str, cases: Vec<Case>) {
         heading("judge"),
         heading("cores"),
         heading("cuts"),
-        heading("MUST")
+        heading("MUST"),
+        heading("MAY"),
+        heading("irr")
     );
     for case in cases {
         println!("{}", row(&case));
@@ -135,31 +137,32 @@ fn heading(call: &str) -> String {
 fn row(case: &Case) -> String {
     let text = &case.text[..];
     let model = text::read(text).expect("an accepted model");
-    let full_set = u32::from(u16::MAX >> (16 - model.rules.len()));
+    let full_set = u16::MAX >> (16 - model.rules.len());
+    let every_rule = u32::from(full_set);
     let judged = timed_with_bytes(
-        |lent| calls::judge(text, full_set, lent),
-        |lent| judge(&TransitionSystem::of(&read(text)), full_set, lent),
+        |lent| calls::judge(text, every_rule, lent),
+        |lent| judge(&TransitionSystem::of(&read(text)), every_rule, lent),
     );
-    let cores = timed_with_bytes(
-        |lent| calls::cores(text, lent),
-        |lent| write_list(&Verdicts::of(&TransitionSystem::of(&read(text))).cores(), lent),
-    );
-    let cuts = timed_with_bytes(
-        |lent| calls::cuts(text, lent),
-        |lent| write_list(&Verdicts::of(&TransitionSystem::of(&read(text))).cuts(), lent),
-    );
-    let must =
-        timed(|| calls::must(text), || Ok(must(&Verdicts::of(&TransitionSystem::of(&read(text))).cores())));
-    let verdicts = Verdicts::of(&TransitionSystem::of(&model));
+    let cores =
+        timed_with_bytes(|lent| calls::cores(text, lent), |lent| write_list(&verdicts(text).cores(), lent));
+    let cuts =
+        timed_with_bytes(|lent| calls::cuts(text, lent), |lent| write_list(&verdicts(text).cuts(), lent));
+    let must = timed(|| calls::must(text), || Ok(must(&verdicts(text).cores())));
+    let may = timed(|| calls::may(text), || Ok(may(&verdicts(text).cores())));
+    let irr = timed(|| calls::irrelevant(text), || Ok(irrelevant(full_set, &verdicts(text).cores())));
     format!(
-        "{:<22} {:>1} {:>2} {:>5} {:>5} {:>6} |{judged} |{cores} |{cuts} |{must}",
+        "{:<22} {:>1} {:>2} {:>5} {:>5} {:>6} |{judged} |{cores} |{cuts} |{must} |{may} |{irr}",
         case.name,
         model.bits,
         model.rules.len(),
         cores.answer.expect("enough bytes lent"),
         cuts.answer.expect("enough bytes lent"),
-        judgements::of_a_list(&verdicts, model.rules.len())
+        judgements::of_a_list(&verdicts(text), model.rules.len())
     )
+}
+
+fn verdicts(text: &[u8]) -> Verdicts {
+    Verdicts::of(&TransitionSystem::of(&read(text)))
 }
 
 fn read(text: &[u8]) -> Model {
@@ -193,7 +196,7 @@ fn timed_with_bytes<T: PartialEq + std::fmt::Debug>(
     mut library: impl FnMut(&mut [u8]) -> T,
     mut plain: impl FnMut(&mut [u8]) -> T,
 ) -> Timed<T> {
-    let (mut theirs, mut ours) = (vec![0; LENT], vec![0; LENT]);
+    let (mut theirs, mut ours) = (vec![0; calls::LIST_BYTES], vec![0; calls::LIST_BYTES]);
     let timed = timed(|| library(&mut theirs), || plain(&mut ours));
     assert_eq!(theirs, ours, "lent bytes, library left, plain search right");
     timed

@@ -1,4 +1,4 @@
-//! The four calls, answered by the plain search.
+//! The calls that read a text, answered by the plain search.
 
 use super::sets::{self, Verdicts};
 use super::system::TransitionSystem;
@@ -13,6 +13,8 @@ pub struct Answers {
     pub cores: Vec<u16>,
     pub cuts: Vec<u16>,
     pub must: u16,
+    pub may: u16,
+    pub irrelevant: u16,
 }
 
 impl Answers {
@@ -25,8 +27,9 @@ impl Answers {
         let verdicts = Verdicts::of(&system);
         let cores = verdicts.cores();
         let cuts = verdicts.cuts();
-        let must = sets::must(&cores);
-        Answers { system, verdicts, cores, cuts, must }
+        let (must, may) = (sets::must(&cores), sets::may(&cores));
+        let irrelevant = sets::irrelevant(system.full_set(), &cores);
+        Answers { system, verdicts, cores, cuts, must, may, irrelevant }
     }
 
     pub fn judge(&self, set: u32, lent: &mut [u8]) -> Result<Verdict, Refused> {

@@ -4,8 +4,8 @@
 //! * [`text`]: how a model text is read, and the numbers 1 to 9.
 //! * [`system`]: the transition system of a model: start states, bad states, steps, reached states.
 //! * [`trace`]: the shortest run to a bad state, the first of its length.
-//! * [`sets`]: every rule set judged; cores, cuts and MUST by definition.
-//! * [`answers`]: the four calls.
+//! * [`sets`]: every rule set judged; cores, cuts, MUST, MAY and the irrelevant rules by definition.
+//! * [`answers`]: the calls.
 //! * [`report`]: the report, as bytes.
 
 pub mod answers;

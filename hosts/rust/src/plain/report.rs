@@ -31,6 +31,8 @@ fn of_accepted(model: &Model) -> Vec<String> {
         }
     }
     lines.push(format!("must={}", names(model, answers.must)));
+    lines.push(format!("may={}", names(model, answers.may)));
+    lines.push(format!("irr={}", names(model, answers.irrelevant)));
     lines.push(format!("cores={}", answers.cores.len()));
     lines.extend(answers.cores.iter().map(|core| format!("core={}", names(model, *core))));
     lines.push(format!("cuts={}", answers.cuts.len()));

@@ -1,4 +1,4 @@
-//! Every rule set judged; cores, cuts and MUST as docs/FORMAT.md defines them.
+//! Every rule set judged; cores, cuts, MUST, MAY and the irrelevant rules as docs/FORMAT.md defines them.
 
 use super::system::TransitionSystem;
 
@@ -32,6 +32,20 @@ impl Verdicts {
 /// MUST is what all cores have in common; if there is no core, it is set 0.
 pub fn must(cores: &[u16]) -> u16 {
     cores.iter().copied().reduce(|common, core| common & core).unwrap_or(0)
+}
+
+/// MAY is what some core has, but for MUST.
+pub fn may(cores: &[u16]) -> u16 {
+    in_some(cores) & !must(cores)
+}
+
+/// The irrelevant rules are those in no core; if there is no core, all of them.
+pub fn irrelevant(full_set: u16, cores: &[u16]) -> u16 {
+    full_set & !in_some(cores)
+}
+
+fn in_some(sets: &[u16]) -> u16 {
+    sets.iter().fold(0, |union, set| union | set)
 }
 
 /// The sets with the property of which no proper part has it: fewer rules first, then by set number.

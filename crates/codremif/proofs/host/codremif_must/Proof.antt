@@ -2,8 +2,8 @@
 -- Assumes nothing.
 use mathlib.Core.Path.{ap, _∙_}
 use borrow.Author.Needs.{needs}
-use Rattle.codremif.specs.Laws.Host.{must-reads}
-use Rattle.codremif.specs.Packing.{mustParts, packed}
+use Rattle.codremif.specs.Laws.Host.{kind-reads}
+use Rattle.codremif.specs.Packing.{setParts, packed}
 use Rattle.codremif.proofs.host.codremif_must.Statement.{statement}
 use Rattle.codremif.proofs.host.codremif_must.Tie as tie
 
@@ -12,5 +12,5 @@ codremif-must-spec =
     tie.close
     (tie.spec
     (λ c κs. search needs)
-    (λ c κs. rw (c .give-must .ensures) (must-reads (c .before .before .args .text .now) .range))
-    (λ c. c .pack-must .ensures ∙ ap (λ a. packed (mustParts a)) (c .before .give-must .ensures)))
+    (λ c κs. rw (c .give-must .ensures) (kind-reads _ (c .before .before .args .text .now) .range))
+    (λ c. c .pack-set .ensures ∙ ap (λ a. packed (setParts a)) (c .before .give-must .ensures)))

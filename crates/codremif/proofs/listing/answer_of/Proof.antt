@@ -1,7 +1,7 @@
 -- `codremif::listing::answer_of` meets its contract, case by case. Assumes nothing.
 use mathlib.Core.Path.{sym, ap}
 use borrow.Author.Needs.{needs}
-use Rattle.codremif.specs.Answers.{ofListed}
+use Rattle.codremif.specs.AsRead.{ofListed}
 use Rattle.codremif.proofs.listing.answer_of.Statement.{statement}
 use Rattle.codremif.proofs.listing.answer_of.Tie as tie
 

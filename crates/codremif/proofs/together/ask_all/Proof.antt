@@ -1,6 +1,7 @@
 -- `codremif::together::ask_all` meets its contract: each call gives what it promises, and for an accepted text that is demand 3.
 -- Assumes nothing.
 use borrow.Author.Needs.{needs}
+use Rattle.sets.specs.Laws.Rows.{third}
 use Rattle.codremif.specs.Demand3.{AsCalled, asked}
 use Rattle.codremif.specs.Laws.Demand3.{calls-meet-demand3}
 use Rattle.codremif.proofs.together.ask_all.Statement.{statement}
@@ -20,7 +21,7 @@ ask-all-spec =
     let b = c .before .before .before in
     let a = b .before .before .before .before in
     let s = a .before .before .before .before .before in
-    let called : AsCalled (s .args .text .now) (asked _ (s .args .cores .now) (a .list .last .1 .1 .0) (s .args .cuts .now) (b .list2 .last .1 .1 .0)) = record {
+    let called : AsCalled (s .args .text .now) (asked _ (s .args .cores .now) (third (a .list .last)) (s .args .cuts .now) (third (b .list2 .last))) = record {
       cores = a .list .ensures .0;
       coresWritten = a .list .ensures .1;
       cuts = b .list2 .ensures .0;

@@ -7,6 +7,7 @@ use mathlib.Core.List.{List}
 use native.Mathlib.Omega.{arith}
 use lib.Dec.{ltb}
 use lib.ListN.{length, replicate}
+use Rattle.sets.specs.Laws.Rows.{third, fourth, fifth}
 use Rattle.sets.specs.Bit.{has}
 use Rattle.sets.specs.Laws.Bit.{has-zero}
 use Rattle.sets.specs.Laws.Cores.{false-if}
@@ -44,22 +45,25 @@ counted p = p .before .before
 abbrev start : tie.After-all-in-word → tie.Start
 start p = p .before .before .before .before .before
 
--- the call that settles all and the function's start, seen from the end
+-- where all is settled, what this call is handed, and the function's start, seen from the end
+abbrev settled : tie.After-slice-known9 → tie.After-settle-all
+settled p = p .before .before .before .before .before .before
+
 abbrev called : tie.After-slice-known9 → tie.After-settle-all-arg3
-called p = p .before .before .before .before .before .before .before
+called p = settled p .before
 
 abbrev begun : tie.After-slice-known9 → tie.Start
 begun p = start (counted (unknown-filled (cores-filled (cuts-filled (called p)))))
 
 -- as many words as at the start
-unknown-kept : (c : tie.After-slice-known9) → length (c .before .before .before .before .before .before .settle-all .last .1 .1 .0) ≡ length (begun c .args .unknown .now)
+unknown-kept : (c : tie.After-slice-known9) → length (third (settled c .settle-all .last)) ≡ length (begun c .args .unknown .now)
 unknown-kept c =
     c .before .before .before .before .before .unknown2 .given ∙ cores-filled (cuts-filled (called c)) .before .before .before .unknown .given
 
-cores-kept : (c : tie.After-slice-known9) → length (c .before .before .before .before .before .before .settle-all .last .1 .1 .1 .0) ≡ length (begun c .args .cores .now)
+cores-kept : (c : tie.After-slice-known9) → length (fourth (settled c .settle-all .last)) ≡ length (begun c .args .cores .now)
 cores-kept c = c .before .before .before .cores2 .given ∙ cuts-filled (called c) .before .before .before .cores .given
 
-cuts-kept : (c : tie.After-slice-known9) → length (c .before .before .before .before .before .before .settle-all .last .1 .1 .1 .1 .0) ≡ length (begun c .args .cuts .now)
+cuts-kept : (c : tie.After-slice-known9) → length (fifth (settled c .settle-all .last)) ≡ length (begun c .args .cuts .now)
 cuts-kept c = c .before .cuts2 .given ∙ called c .before .before .before .before .cuts .given
 
 pub find-spec : {M : Type 1} → statement M
@@ -86,7 +90,7 @@ find-spec =
     (λ c. cores-kept c)
     (λ c. cuts-kept c)
     (λ c.
-    let d = c .before .before .before .before .before .before .settle-all .ensures in
+    let d = settled c .settle-all .ensures in
     let p = begun c .pre in (
       is-tableBy (d .noneUnknown) (unknown-kept c ∙ p .inUnknown) (λ w. omega (arith, c .before .before .before .before .slice-known7 .given w)),
       (

@@ -2,52 +2,39 @@
 -- sets as by number. Assumes nothing.
 use Prim.Native.Nat.{ℕ, _+_, _-_, _^_, _≤_, _<_}
 use mathlib.Core.Path.{_≡_, sym, ap, _∙_}
-use mathlib.Core.Bool.{false}
-use mathlib.Core.List.{List, []}
+use mathlib.Core.List.{List, [], _∷_}
 use native.Mathlib.Omega.{arith}
 use lib.ListN.{length, length-append}
-use Rattle.sets.specs.Lists.{joined, oneIf, select, listOf}
+use Rattle.sets.specs.Lists.{select, listOf}
 use Rattle.sets.specs.Laws.Growth.{length-listOf}
 use Rattle.systems.specs.Next.{NextFrom}
 use Rattle.cores.specs.Marks.{marked}
-use Rattle.cores.proofs.Passing.{Within, Passing, all-within, stands, none-before, one-passed}
+use Rattle.cores.proofs.Passing.{Within, Passing, all-within, stands, none-marked, one-marked}
 use Rattle.cores.proofs.writing.count.Statement.{statement}
 use Rattle.cores.proofs.writing.count.Tie as tie
 
 module _ (table : List ℕ) where
-  abbrev one : ℕ → List ℕ
-  one S = oneIf (marked table S) S
-
-  unmarked : (S : ℕ) → marked table S ≡ false → one S ≡ []
-  unfolding oneIf
-  unmarked S e = rw e
-
   record Counting (end n s : ℕ) : Type 0 where
     passing : Passing table end s
     few : n ≤ s
-    counted : n ≡ length (joined one s)
+    counted : n ≡ length (select (marked table) s)
 
   start : {end s : ℕ} → Within table end → NextFrom (marked table) 0 end s → Counting end 0 s
-  start {end} {s} h f =
-      record { passing = stands h f; few = omega arith; counted = sym (ap length (none-before (marked table) one unmarked end s f)) }
+  start h f = record { passing = stands h f; few = omega arith; counted = sym (ap length (none-marked table f)) }
 
   module _ {end n s : ℕ} (c : Counting end n s) where
     next : s < end → {t : ℕ} → NextFrom (marked table) (s + 1) end t → Counting end (n + 1) t
-    unfolding oneIf
     next l {t} f =
         record {
           passing = stands (c .passing .inside) f;
           few = omega (arith, c .few, f .after (omega arith));
-          counted =
-              let alone : length (one s) ≡ 1 = rw (c .passing .marks l) in
-              omega (arith, c .counted, ap length (one-passed (marked table) one unmarked end s t l f), length-append (joined one s) (one s), alone);
+          counted = omega (arith, c .counted, ap length (one-marked table (c .passing) l f), length-append (select (marked table) s) (s ∷ []));
         }
 
     all : (R : ℕ) → end ≡ 2 ^ R → end ≤ s → n ≡ length (listOf R (marked table))
-    unfolding select
     all R e l =
         let there : s ≡ 2 ^ R = omega (arith, c .passing .within) in
-        c .counted ∙ ap (λ (k : ℕ). length (joined one k)) there ∙ sym (length-listOf R (marked table))
+        c .counted ∙ ap (λ (k : ℕ). length (select (marked table) k)) there ∙ sym (length-listOf R (marked table))
 
 abbrev Inv-loop : tie.InvT-loop
 Inv-loop table rules end n₀ s₀ n s = Counting table end n s

@@ -5,6 +5,7 @@ use native.Mathlib.Omega.{arith}
 use borrow.Author.Needs.{needs}
 use lib.ListN.{length-replicate}
 use lib.Seq.{length-take-le}
+use Rattle.sets.specs.Laws.Rows.{third}
 use Rattle.models.specs.Written.{modelIn}
 use Rattle.codremif.specs.Answers.{listIn}
 use Rattle.reports.specs.Report.{listLines}
@@ -23,7 +24,7 @@ start p = p .before .before .before .before
 
 -- the list stands in the lent bytes
 held : (c : tie.After-counted)
-    → Holding (start (asked c) .args .text .now) (start (asked c) .args .m) (listIn (start (asked c) .args .which) (start (asked c) .args .text .now)) (2 * c .counted .result) (asked c .list .last .1 .1 .0)
+    → Holding (start (asked c) .args .text .now) (start (asked c) .args .m) (listIn (start (asked c) .args .which) (start (asked c) .args .text .now)) (2 * c .counted .result) (third (asked c .list .last))
 held c =
     let l = asked c in
     list-held _ _ (start l .pre) _ _ (length-replicate {A = ℕ} 131072 0) _ _ (l .list .ensures) _ (ap (λ (n : ℕ). 2 * n) (c .counted .ensures))

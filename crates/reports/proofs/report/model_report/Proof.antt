@@ -1,20 +1,19 @@
 -- `reports::report::model_report` meets its contract: the four parts are put one after the other. Assumes nothing.
 use Prim.Native.Nat.{ℕ}
 use mathlib.Core.Path.{_≡_, refl, ap, ap₂, _∙_}
+use mathlib.Core.Bool.{Bool}
 use mathlib.Core.List.{List, _++_}
 use borrow.Author.Needs.{needs}
 use lib.ListN.{length}
 use Rattle.sets.specs.Bit.{full}
-use Rattle.sets.specs.Lists.{mustOf}
-use Rattle.lines.specs.Bytes.{bytes}
 use Rattle.models.specs.Written.{Described, modelIn}
 use Rattle.systems.specs.System.{System}
 use Rattle.semantics.specs.Meaning.{systemOf, judge}
 use Rattle.cores.specs.declared.which.WhichList.{WhichList}
 use Rattle.cores.specs.declared.which.WhichList.the-variants.{Cores, Cuts}
 use Rattle.cores.specs.Which.{listed}
-use Rattle.codremif.specs.Answers.{rulesIn, systemIn, judgeIn, listIn, mustIn}
-use Rattle.reports.specs.Report.{verdictLines, setLine, listLines, modelReport}
+use Rattle.codremif.specs.Answers.{rulesIn, systemIn, judgeIn, listIn}
+use Rattle.reports.specs.Report.{verdictLines, kindLines, listLines, modelReport}
 use Rattle.reports.proofs.Putting.{put-as, both-put}
 use Rattle.reports.proofs.report.model_report.Statement.{statement}
 use Rattle.reports.proofs.report.model_report.Tie as tie
@@ -23,17 +22,17 @@ use Rattle.reports.proofs.report.model_report.Tie as tie
 abbrev cores-put : tie.After-list-lines2 → tie.After-list-lines
 cores-put p = p .before .before .before .before
 
--- behind MUST, from behind the core list
-abbrev must-put : tie.After-list-lines → tie.After-must-line
-must-put p = p .before .before .before .before
+-- behind the kinds of rules, from behind the core list
+abbrev kinds-put : tie.After-list-lines → tie.After-kind-lines
+kinds-put p = p .before .before .before .before
 
--- behind the verdict, from behind MUST
-abbrev verdict-put : tie.After-must-line → tie.After-verdict-lines
+-- behind the verdict, from behind the kinds of rules
+abbrev verdict-put : tie.After-kind-lines → tie.After-verdict-lines
 verdict-put p = p .before .before .before .before
 
 -- the four parts
-abbrev parts : Described → System → ℕ → List ℕ → List ℕ → List ℕ
-parts M N must cores cuts = verdictLines N ++ (setLine M (bytes "must=") must ++ (listLines M Cores cores ++ listLines M Cuts cuts))
+abbrev parts : Described → System → (ℕ → Bool) → List ℕ → List ℕ → List ℕ
+parts M N h cores cuts = verdictLines N ++ (kindLines M h ++ (listLines M Cores cores ++ listLines M Cuts cuts))
 
 module _ (text : List ℕ) where
   R : ℕ
@@ -43,20 +42,20 @@ module _ (text : List ℕ) where
   unfolding systemIn rulesIn R
   system-is = refl
 
-  must-is : mustIn text ≡ mustOf R (judge (modelIn text))
-  unfolding mustIn rulesIn judgeIn R
-  must-is = refl
+  judge-is : judgeIn text ≡ judge (modelIn text)
+  unfolding judgeIn
+  judge-is = refl
 
   list-is : (which : WhichList) → listIn which text ≡ listed which R (judge (modelIn text))
   unfolding listIn rulesIn judgeIn R
   list-is which = refl
 
-  parts-are : parts (modelIn text) (systemIn text (full (rulesIn text))) (mustIn text) (listIn Cores text) (listIn Cuts text) ≡ modelReport (modelIn text)
+  parts-are : parts (modelIn text) (systemIn text (full (rulesIn text))) (judgeIn text) (listIn Cores text) (listIn Cuts text) ≡ modelReport (modelIn text)
   unfolding modelReport R
   parts-are =
-      ap (λ (N : System). parts (modelIn text) N (mustIn text) (listIn Cores text) (listIn Cuts text)) system-is
-      ∙ ap (λ (S : ℕ). parts (modelIn text) (systemOf (modelIn text) (full R)) S (listIn Cores text) (listIn Cuts text)) must-is
-      ∙ ap₂ (parts (modelIn text) (systemOf (modelIn text) (full R)) (mustOf R (judge (modelIn text)))) (list-is Cores) (list-is Cuts)
+      ap (λ (N : System). parts (modelIn text) N (judgeIn text) (listIn Cores text) (listIn Cuts text)) system-is
+      ∙ ap (λ h. parts (modelIn text) (systemOf (modelIn text) (full R)) h (listIn Cores text) (listIn Cuts text)) judge-is
+      ∙ ap₂ (parts (modelIn text) (systemOf (modelIn text) (full R)) (judge (modelIn text))) (list-is Cores) (list-is Cuts)
 
 pub model-report-spec : {M : Type 1} → statement M
 model-report-spec =
@@ -70,8 +69,8 @@ model-report-spec =
     (λ c.
     let cuts = c .before .before in
     let cores = cores-put cuts in
-    let must = must-put cores in
+    let kinds = kinds-put cores in
     put-as _ _ _ _
-    (both-put _ _ _ _ _ (verdict-put must .verdict-lines .ensures)
-    (both-put _ _ _ _ _ (must .must-line .ensures) (both-put _ _ _ _ _ (cores .list-lines .ensures) (cuts .list-lines2 .ensures))))
+    (both-put _ _ _ _ _ (verdict-put kinds .verdict-lines .ensures)
+    (both-put _ _ _ _ _ (kinds .kind-lines .ensures) (both-put _ _ _ _ _ (cores .list-lines .ensures) (cuts .list-lines2 .ensures))))
     (parts-are _)))

@@ -1,0 +1,17 @@
+-- `analysis::kinds::kinds` meets its contract: either array has room for the masks.
+-- Assumes nothing.
+use native.Mathlib.Omega.{arith}
+use Rattle.semantics.specs.Laws.Filled.{repeats, array-room}
+use Rattle.analysis.proofs.kinds.kinds.Statement.{statement}
+use Rattle.analysis.proofs.kinds.kinds.Tie as tie
+
+pub kinds-spec : {M : Type 1} → statement M
+kinds-spec =
+    tie.close
+    (tie.spec
+    (λ c. repeats 1024 0)
+    (λ c κs. let p = c .before .before .before .before .pre in array-room 1024 3 (omega arith) (omega (arith, c .before .if1 .taken)) (p .vars) (p .rules))
+    (λ c. repeats 16384 0)
+    (λ c κs. let p = c .before .before .before .before .pre in array-room 16384 7 (omega arith) (p .vars) (p .vars) (p .rules))
+    (λ c. c .before .kinds-with .ensures)
+    (λ c. c .before .kinds-with2 .ensures))

@@ -1,0 +1,87 @@
+-- A model that is changed in its rules stays legal, and which rules it then has.
+-- From the laws of lists, and of what a set keeps of a list.
+use Prim.Native.Nat.{ℕ, _^_, _<_}
+use mathlib.Core.Path.{_≡_, sym, ap, _∙_}
+use mathlib.Core.Logic.{_≢_}
+use mathlib.Core.Bool.{true}
+use native.Mathlib.Omega.{arith}
+use native.Mathlib.Decide.{ℕ-discrete}
+use lib.Count.{ones, ones-le}
+use lib.ListN.{length, length-set}
+use lib.Seq.{getD-set-same, getD-set-other}
+use Rattle.sets.specs.Renumbered.{oldPlace}
+use Rattle.sets.specs.Laws.Kept.{length-kept, kept-at, old-up, old-below}
+use Rattle.exprs.specs.Expr.{Expr}
+use Rattle.lines.specs.Written.{LegalExpr, LegalRule}
+use Rattle.models.specs.Written.{Described, Legal, ruleAt}
+use Rattle.models.specs.Changed.{keeping, replacing}
+
+-- ---- some rules are left out
+
+module _ (U : ℕ) (M : Described) (h : U < 2 ^ length (M .rules)) where
+  -- There are as many rules as the set has.
+  pub length-keeping : length (keeping U M .rules) ≡ ones U
+  unfolding keeping
+  length-keeping = length-kept U (M .rules) h
+
+  old-rule : (i : ℕ) → ruleAt (keeping U M .rules) i ≡ ruleAt (M .rules) (oldPlace (length (M .rules)) U i)
+  unfolding keeping
+  old-rule i = kept-at U (M .rules) i _
+
+  old-place : (i : ℕ) → i < length (keeping U M .rules) → oldPlace (length (M .rules)) U i < length (M .rules)
+  old-place i k = old-below (length (M .rules)) U i h (omega (arith, length-keeping))
+
+  -- With at least one rule the model is legal.
+  pub keeping-legal : Legal M → 0 < ones U → Legal (keeping U M)
+  unfolding keeping
+  keeping-legal l some = record {
+    vars = l .vars;
+    count = record { atLeast = omega (arith, length-keeping); atMost = omega (arith, length-keeping, ones-le (length (M .rules)) U h, l .count .atMost) };
+    init = l .init;
+    prop = l .prop;
+    rules = λ i k. rw (old-rule i) (l .rules (oldPlace (length (M .rules)) U i) (old-place i k));
+    names = λ i j k m. rw (old-rule i, old-rule j) (l .names _ _ (old-up (length (M .rules)) U i j k) (old-place j m));
+  }
+
+-- ---- one expression is replaced
+
+module _ (i : ℕ) (e : Expr) (M : Described) where
+  -- There are as many rules as before.
+  pub length-replacing : length (replacing i e M .rules) ≡ length (M .rules)
+  unfolding replacing
+  length-replacing = length-set (M .rules) i _
+
+  -- Every other rule is the one that it was.
+  pub other-rule : (j : ℕ) → j ≢ i → ruleAt (replacing i e M .rules) j ≡ ruleAt (M .rules) j
+  unfolding replacing
+  other-rule j n = getD-set-other (M .rules) i j _ _ n
+
+  module _ (h : i < length (M .rules)) where
+    replaced : ruleAt (replacing i e M .rules) i ≡ record { name = ruleAt (M .rules) i .name; step = e }
+    unfolding replacing
+    replaced = getD-set-same (M .rules) i _ _ h
+
+    same-name : (j : ℕ) → ruleAt (replacing i e M .rules) j .name ≡ ruleAt (M .rules) j .name
+    same-name j = go (ℕ-discrete j i)
+      where
+        go : Dec (j ≡ i) → ruleAt (replacing i e M .rules) j .name ≡ ruleAt (M .rules) j .name
+        go (yes q) = rw q (ap (λ r. r .name) replaced)
+        go (no n) = ap (λ r. r .name) (other-rule j n)
+
+    -- With a legal expression in its place the model is legal.
+    pub replacing-legal : Legal M → LegalExpr (M .vars) true e → Legal (replacing i e M)
+    unfolding replacing
+    replacing-legal l le = record {
+      vars = l .vars;
+      count = rw length-replacing (l .count);
+      init = l .init;
+      prop = l .prop;
+      rules = λ j k. rule j (rw length-replacing at k) (ℕ-discrete j i);
+      names = λ j k m n q. l .names j k m (rw length-replacing at n) (sym (same-name j) ∙ q ∙ same-name k);
+    }
+      where
+        rule : (j : ℕ) → j < length (M .rules) → Dec (j ≡ i) → LegalRule (M .vars) (ruleAt (replacing i e M .rules) j)
+        rule j k (yes q) =
+            let old = l .rules i h in
+            rw (q, replaced) (record { nameLength = old .nameLength; nameBytes = old .nameBytes; step = le })
+        rule j k (no n) = rw (other-rule j n) (l .rules j k)

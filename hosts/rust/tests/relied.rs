@@ -1,0 +1,220 @@
+//! Rules that nobody relies on: two proved facts, tried on random models. The library alone is asked, about a model and about
+//! the same model with rules left out or changed.
+
+#![deny(warnings)]
+
+use codremif_host::answer::Verdict;
+use codremif_host::calls;
+use codremif_host::compare::show;
+use codremif_host::random::generator::seed_for;
+use codremif_host::random::models::model;
+use codremif_host::random::written::{expression, Written};
+use codremif_host::random::Random;
+
+/// Each fact is tried on so many models at least to which it applies and says something.
+const APPLIED: usize = 5_000;
+
+/// Where some rule is in a core, leaving out every irrelevant rule gives a model with the same cores by name; so it has the
+/// same cuts, MUST and MAY, and no rule of it is irrelevant.
+#[test]
+fn without_the_irrelevant_rules() {
+    let mut random = Random::new(seed_for("without the irrelevant rules", 20_260_501));
+    let mut seen = LeftOut::default();
+    for _ in 0..20_000 {
+        let written = random_model(&mut random);
+        let before = Named::of(&written);
+        seen.models += 1;
+        if before.irrelevant.is_empty() || !before.has_a_rule_in_a_core() {
+            continue;
+        }
+        seen.note(&before, &written);
+        let text = written.text();
+        let expected = Named { irrelevant: Vec::new(), ..before };
+        let after = Named::of(&without(&written, calls::irrelevant(&text).expect("accepted before")));
+        assert_eq!(after, expected, "left without the irrelevant rules, right with them; {}", show(&text));
+    }
+    println!("without the irrelevant rules: {seen:?}");
+    assert!(seen.compared >= APPLIED, "{seen:?}");
+    assert!(seen.several_left_out >= 1000 && seen.several_cores >= 1000, "{seen:?}");
+    assert!(seen.all_kinds >= 300 && seen.many_cores >= 500, "{seen:?}");
+    assert_eq!((seen.most_bits, seen.most_rules), (7, 16), "{seen:?}");
+}
+
+/// If the property holds, it does so with any legal expression in place of that of one rule outside MUST. A rule of MUST
+/// shows that it need not be so: with `1` in its place the property is broken.
+#[test]
+fn another_expression_outside_must() {
+    let mut random = Random::new(seed_for("another expression outside MUST", 20_260_502));
+    let mut seen = Replaced::default();
+    for _ in 0..20_000 {
+        let written = random_model(&mut random);
+        seen.models += 1;
+        if !holds(&written) {
+            seen.broken += 1;
+            continue;
+        }
+        replace_outside_must(&mut random, &mut seen, &written);
+        weaken_in_must(&mut random, &mut seen, &written);
+    }
+    println!("another expression outside MUST: {seen:?}");
+    assert!(seen.in_may + seen.irrelevant_beside_core >= APPLIED, "{seen:?}");
+    assert!(seen.in_may >= 2000 && seen.irrelevant_beside_core >= 1000, "{seen:?}");
+    assert!(seen.in_must >= 1000, "{seen:?}");
+    assert!(seen.shortest == 1 && seen.longest == 64, "{seen:?}");
+}
+
+/// Small ones mostly: a call's time grows with 4^N.
+fn random_model(random: &mut Random) -> Written {
+    let bits = random.pick(&[1, 2, 2, 2, 3, 3, 3, 3, 4, 4, 5]);
+    if random.percent(2) {
+        return model(random, 7, 16);
+    }
+    let rules = random.between(2, 12);
+    model(random, bits, rules)
+}
+
+/// What the library says of a model, in names and in the order that it gives.
+#[derive(Debug, PartialEq, Eq)]
+struct Named {
+    cores: Vec<Vec<String>>,
+    cuts: Vec<Vec<String>>,
+    must: Vec<String>,
+    may: Vec<String>,
+    irrelevant: Vec<String>,
+}
+
+impl Named {
+    fn of(written: &Written) -> Named {
+        let text = written.text();
+        let names = |set| places(set, written).map(|place| written.rules[place].0.clone()).collect();
+        let named = |sets: Vec<u16>| sets.into_iter().map(names).collect();
+        Named {
+            cores: named(calls::listed(calls::cores, &text).expect("an accepted model")),
+            cuts: named(calls::listed(calls::cuts, &text).expect("an accepted model")),
+            must: names(calls::must(&text).expect("an accepted model")),
+            may: names(calls::may(&text).expect("an accepted model")),
+            irrelevant: names(calls::irrelevant(&text).expect("an accepted model")),
+        }
+    }
+
+    fn has_a_rule_in_a_core(&self) -> bool {
+        self.cores.iter().any(|core| !core.is_empty())
+    }
+}
+
+fn places(set: u16, written: &Written) -> impl Iterator<Item = usize> {
+    (0..written.rules.len()).filter(move |place| set >> place & 1 == 1)
+}
+
+fn full_set(written: &Written) -> u16 {
+    u16::MAX >> (16 - written.rules.len())
+}
+
+/// The other rules stay as they are and in their order.
+fn without(written: &Written, set: u16) -> Written {
+    let kept = places(full_set(written) & !set, written).map(|place| written.rules[place].clone());
+    Written { rules: kept.collect(), ..written.clone() }
+}
+
+fn with_expression(written: &Written, place: usize, expression: String) -> Written {
+    let mut changed = written.clone();
+    changed.rules[place].1 = expression;
+    changed
+}
+
+fn holds(written: &Written) -> bool {
+    let verdict = calls::judge(&written.text(), u32::from(full_set(written)), &mut [0; 128]);
+    verdict.expect("an accepted model") == Verdict::Holds
+}
+
+/// Another expression than this, of any length.
+fn another(random: &mut Random, bits: usize, expression_before: &str) -> String {
+    loop {
+        let longest = random.pick(&[1, 3, 8, 20, 64]);
+        let length = random.between(1, longest);
+        let other = expression(random, bits, true, length);
+        if other != expression_before {
+            return other;
+        }
+    }
+}
+
+fn replace_outside_must(random: &mut Random, seen: &mut Replaced, written: &Written) {
+    let text = written.text();
+    let must = calls::must(&text).expect("accepted before");
+    let outside: Vec<usize> = places(full_set(written) & !must, written).collect();
+    if outside.is_empty() {
+        seen.nothing_outside += 1;
+        return;
+    }
+    let place = random.pick(&outside);
+    let other = another(random, written.bits, &written.rules[place].1);
+    seen.note(&text, must, place, &other);
+    let changed = with_expression(written, place, other);
+    assert!(holds(&changed), "held with {} before; {}", written.rules[place].1, show(&changed.text()));
+}
+
+fn weaken_in_must(random: &mut Random, seen: &mut Replaced, written: &Written) {
+    let must = calls::must(&written.text()).expect("accepted before");
+    let inside: Vec<usize> = places(must, written).collect();
+    if inside.is_empty() {
+        return;
+    }
+    seen.in_must += 1;
+    let changed = with_expression(written, random.pick(&inside), "1".to_string());
+    assert!(!holds(&changed), "a rule of MUST gone, and it holds; {}", show(&changed.text()));
+}
+
+/// What came up, so that the test can demand that everything did.
+#[derive(Debug, Default)]
+struct LeftOut {
+    models: usize,
+    compared: usize,
+    several_left_out: usize,
+    several_cores: usize,
+    many_cores: usize,
+    all_kinds: usize,
+    most_bits: usize,
+    most_rules: usize,
+}
+
+impl LeftOut {
+    fn note(&mut self, named: &Named, written: &Written) {
+        self.compared += 1;
+        self.several_left_out += usize::from(named.irrelevant.len() >= 2);
+        self.several_cores += usize::from(named.cores.len() >= 2);
+        self.many_cores += usize::from(named.cores.len() >= 10);
+        self.all_kinds += usize::from(!named.must.is_empty() && !named.may.is_empty());
+        self.most_bits = self.most_bits.max(written.bits);
+        self.most_rules = self.most_rules.max(written.rules.len());
+    }
+}
+
+/// The same. Where set 0 holds, every rule is irrelevant and the fact says little: such models are counted apart.
+#[derive(Debug, Default)]
+struct Replaced {
+    models: usize,
+    broken: usize,
+    nothing_outside: usize,
+    in_may: usize,
+    irrelevant_beside_core: usize,
+    empty_core: usize,
+    in_must: usize,
+    shortest: usize,
+    longest: usize,
+}
+
+impl Replaced {
+    fn note(&mut self, text: &[u8], must: u16, place: usize, expression: &str) {
+        let may = calls::may(text).expect("accepted before");
+        match (may >> place & 1 == 1, must | may) {
+            (true, _) => self.in_may += 1,
+            (false, 0) => self.empty_core += 1,
+            (false, _) => self.irrelevant_beside_core += 1,
+        }
+        self.longest = self.longest.max(expression.len());
+        if self.shortest == 0 || expression.len() < self.shortest {
+            self.shortest = expression.len();
+        }
+    }
+}
