@@ -13,9 +13,8 @@ use Rattle.models.specs.declared.model.Outcome.the-variants.{Refused}
 use Rattle.models.specs.Written.{described}
 use Rattle.semantics.specs.Meaning.{judge}
 use Rattle.cores.specs.declared.which.WhichList.{WhichList}
-use Rattle.cores.specs.Which.{listed}
+use Rattle.cores.specs.Which.{listed, ofKind}
 use Rattle.cores.specs.declared.kinds.Kind.{Kind}
-use Rattle.cores.specs.Kinds.{ofKind}
 use Rattle.analysis.specs.declared.lists.Listed.the-variants.{Count as Found, TooShort}
 use Rattle.analysis.specs.declared.lists.Listed.{Listed}
 use Rattle.analysis.specs.Few.{Few}

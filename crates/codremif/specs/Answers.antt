@@ -16,9 +16,8 @@ use Rattle.systems.specs.System.{System}
 use Rattle.systems.specs.Verdict.{holds, traceOf}
 use Rattle.semantics.specs.Meaning.{systemOf, judge}
 use Rattle.cores.specs.declared.which.WhichList.{WhichList}
-use Rattle.cores.specs.Which.{listed}
+use Rattle.cores.specs.Which.{listed, ofKind}
 use Rattle.cores.specs.declared.kinds.Kind.{Kind}
-use Rattle.cores.specs.Kinds.{ofKind}
 use Rattle.codremif.specs.declared.answers.JudgeAnswer.{JudgeAnswer}
 use Rattle.codremif.specs.declared.answers.JudgeAnswer.the-variants.{Refused as JudgeRefused, Holds, Broken}
 use Rattle.codremif.specs.declared.answers.ListAnswer.{ListAnswer}

@@ -1,5 +1,5 @@
 -- The demands of the mission, as theorems about what exactly the calls of this crate answer and write. Nothing is assumed.
--- To believe them, read these files below crates/ in this order (lines without imports and blank lines, 1,164 in all). What is proved of their
+-- To believe them, read these files below crates/ in this order (lines without imports and blank lines, 1,154 in all). What is proved of their
 -- definitions stands in `Laws` and need not be read, and neither need the functions that compute (the reading of a text, the verdict, the lists):
 -- the theorems say what they give.
 --   a number as a set of rules or of letters           sets/specs/Bit                8
@@ -20,8 +20,7 @@
 --   MUST, MAY and the irrelevant rules                 sets/specs/Kinds             30
 --   what a set keeps of a list                         sets/specs/Kept               7
 --   a model that is changed in its rules               models/specs/Changed         13
---   which list is meant                                cores/specs/Which             7
---   which kind of rules is meant                       cores/specs/Kinds            16
+--   which list is meant, and which kind of rules       cores/specs/Which            13
 --   what each call answers and writes                  codremif/specs/Answers       91
 --   an answer as one 64-bit number                     codremif/specs/Packing       46
 --   demand 1 for a text                                codremif/specs/Demand1       53

@@ -1,4 +1,4 @@
--- The kinds of rules by a list of cores and by a judgement, and the rules of the kind that is meant.
+-- The kinds of rules together, by a list of cores and by a judgement.
 -- These are definitions.
 use Prim.Native.Nat.{ℕ, _-_}
 use mathlib.Core.Bool.{Bool}
@@ -6,8 +6,6 @@ use mathlib.Core.List.{List}
 use Rattle.sets.specs.Bit.{full}
 use Rattle.sets.specs.Lists.{common, mustOf}
 use Rattle.sets.specs.Kinds.{together, mayOf, irrelevantOf}
-use Rattle.cores.specs.declared.kinds.Kind.{Kind}
-use Rattle.cores.specs.declared.kinds.Kind.the-variants.{Must, May, Irrelevant}
 use Rattle.cores.specs.declared.kinds.Kinds.{Kinds}
 
 -- What the cores have in common, what only some of them have, and what none of them has.
@@ -19,10 +17,3 @@ kindsBy R cores = record { must = common cores; may = together cores - common co
 unfoldable pub kindsOf : ℕ → (ℕ → Bool) → Kinds
 unfolding mustOf mayOf irrelevantOf
 kindsOf R h = record { must = mustOf R h; may = mayOf R h; irrelevant = irrelevantOf R h }
-
--- The rules of one kind, of R rules that h judges.
-unfoldable pub ofKind : Kind → ℕ → (ℕ → Bool) → ℕ
-unfolding mustOf mayOf irrelevantOf
-ofKind Must R h = mustOf R h
-ofKind May R h = mayOf R h
-ofKind Irrelevant R h = irrelevantOf R h

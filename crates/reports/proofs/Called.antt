@@ -22,11 +22,11 @@ use Rattle.systems.specs.System.{System}
 use Rattle.systems.specs.Verdict.{holds, traceOf}
 use Rattle.cores.specs.declared.which.WhichList.{WhichList}
 use Rattle.cores.specs.declared.which.WhichList.the-variants.{Cores, Cuts}
-use Rattle.cores.specs.Which.{listed}
+use Rattle.cores.specs.Which.{listed, ofKind}
 use Rattle.cores.specs.declared.kinds.Kind.{Kind}
 use Rattle.cores.specs.declared.kinds.Kind.the-variants.{Must, May, Irrelevant}
 use Rattle.cores.specs.declared.kinds.Kinds.{Kinds}
-use Rattle.cores.specs.Kinds.{kindsOf, ofKind}
+use Rattle.cores.specs.Kinds.{kindsOf}
 use Rattle.codremif.specs.declared.answers.JudgeAnswer.{JudgeAnswer}
 use Rattle.codremif.specs.declared.answers.JudgeAnswer.the-variants.{Refused as JudgeRefused, Holds, Broken}
 use Rattle.codremif.specs.declared.answers.ListAnswer.{ListAnswer}

@@ -5,9 +5,8 @@ use lib.Count.{ones}
 use Rattle.exprs.specs.Token.{tokenOf}
 use Rattle.exprs.specs.Expr.{size}
 use Rattle.lines.specs.Bytes.{belongs, endedLines}
-use Rattle.cores.specs.Kinds.{ofKind}
 use Rattle.semantics.specs.Meaning.{systemOf, judge}
-use Rattle.cores.specs.Which.{listed}
+use Rattle.cores.specs.Which.{listed, ofKind}
 use Rattle.reports.specs.Report.{verdictLines, setLine, kindLines, listLines, modelReport, reportOf}
 
 pub tremor-report : reportOf (endedLines ("vars=3" ∷ "rules=3" ∷ "init=!c" ∷ "prop=>c&ab" ∷ "rule=ra:>CA" ∷ "rule=rb:>CB" ∷ "rule=vote:>C&AB" ∷ []))

@@ -16,9 +16,8 @@ use Rattle.systems.specs.Verdict.{holds, traceOf}
 use Rattle.semantics.specs.Meaning.{systemOf, judge}
 use Rattle.cores.specs.declared.which.WhichList.{WhichList}
 use Rattle.cores.specs.declared.which.WhichList.the-variants.{Cores, Cuts}
-use Rattle.cores.specs.Which.{listed}
+use Rattle.cores.specs.Which.{listed, ofKind}
 use Rattle.cores.specs.declared.kinds.Kind.the-variants.{Must, May, Irrelevant}
-use Rattle.cores.specs.Kinds.{ofKind}
 use Rattle.codremif.specs.Answers.{textOutcome}
 
 -- ---- the lines

@@ -18,13 +18,12 @@ use Rattle.semantics.specs.Meaning.{judge}
 use Rattle.semantics.specs.Laws.Meaning.{judge-monotone}
 use Rattle.cores.specs.declared.which.WhichList.{WhichList}
 use Rattle.cores.specs.declared.which.WhichList.the-variants.{Cores, Cuts}
-use Rattle.cores.specs.Which.{listed}
+use Rattle.cores.specs.Which.{listed, ofKind}
 use Rattle.codremif.specs.declared.answers.JudgeAnswer.{JudgeAnswer}
 use Rattle.codremif.specs.declared.answers.JudgeAnswer.the-variants.{Refused as JudgeRefused, Holds, Broken}
 use Rattle.codremif.specs.declared.answers.ListAnswer.{ListAnswer}
 use Rattle.codremif.specs.declared.answers.ListAnswer.the-variants.{Refused as ListRefused}
 use Rattle.cores.specs.declared.kinds.Kind.the-variants.{Must}
-use Rattle.cores.specs.Kinds.{ofKind}
 use Rattle.codremif.specs.declared.answers.SetAnswer.{SetAnswer}
 use Rattle.codremif.specs.Answers.{rulesIn, systemIn, judgeIn, listIn, kindIn, textOutcome, judgeAnswer, listAnswer, listBytes, after}
 use Rattle.codremif.specs.Packing.{accepted, refused, judgeParts, listParts, setParts, packed}

@@ -24,10 +24,9 @@ use Rattle.systems.specs.Judged.{judged}
 use Rattle.semantics.specs.Meaning.{systemOf}
 use Rattle.cores.specs.declared.which.WhichList.{WhichList}
 use Rattle.cores.specs.declared.which.WhichList.the-variants.{Cores, Cuts}
-use Rattle.cores.specs.Which.{listed}
+use Rattle.cores.specs.Which.{listed, ofKind}
 use Rattle.cores.specs.declared.kinds.Kind.{Kind}
 use Rattle.cores.specs.declared.kinds.Kind.the-variants.{Must, May, Irrelevant}
-use Rattle.cores.specs.Kinds.{ofKind}
 use Rattle.codremif.specs.declared.answers.JudgeAnswer.the-variants.{Refused as JudgeRefused, Holds, Broken}
 use Rattle.codremif.specs.declared.answers.ListAnswer.the-variants.{Refused as ListRefused}
 use Rattle.codremif.specs.declared.answers.SetAnswer.the-variants.{Refused as SetRefused}

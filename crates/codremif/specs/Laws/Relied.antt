@@ -32,9 +32,8 @@ use Rattle.semantics.specs.Meaning.{judge}
 use Rattle.semantics.specs.Laws.Changed.{judge-keeping, replacing-holds}
 use Rattle.cores.specs.declared.which.WhichList.{WhichList}
 use Rattle.cores.specs.declared.which.WhichList.the-variants.{Cores, Cuts}
-use Rattle.cores.specs.Which.{listed}
+use Rattle.cores.specs.Which.{listed, ofKind}
 use Rattle.cores.specs.declared.kinds.Kind.the-variants.{Must, May}
-use Rattle.cores.specs.Kinds.{ofKind}
 use Rattle.codremif.specs.declared.answers.JudgeAnswer.the-variants.{Holds}
 use Rattle.codremif.specs.Answers.{rulesIn, judgeIn, listIn, kindIn, textOutcome, judgeAnswer, kindAnswer}
 use Rattle.codremif.specs.Packing.{accepted, setParts, packed}

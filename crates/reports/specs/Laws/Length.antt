@@ -30,8 +30,7 @@ use Rattle.semantics.specs.Meaning.{systemOf, judge}
 use Rattle.cores.specs.declared.which.WhichList.{WhichList}
 use Rattle.cores.specs.declared.which.WhichList.the-variants.{Cores, Cuts}
 use Rattle.cores.specs.declared.kinds.Kind.the-variants.{Must, May, Irrelevant}
-use Rattle.cores.specs.Kinds.{ofKind}
-use Rattle.cores.specs.Which.{listed}
+use Rattle.cores.specs.Which.{listed, ofKind}
 use Rattle.codremif.specs.Answers.{rulesIn, judgeIn, listIn, textOutcome}
 use Rattle.codremif.specs.Laws.Answers.{vars-most}
 use Rattle.codremif.specs.Laws.Host.{select-length, list-le}

@@ -19,7 +19,7 @@ use Rattle.sets.specs.Bit.{full}
 use Rattle.sets.specs.Laws.Sets.{part-le}
 use Rattle.sets.specs.Cores.{Core, breaks, isCore, isCut}
 use Rattle.sets.specs.Laws.Cores.{least-agree, isCore-iff}
-use Rattle.sets.specs.Lists.{joined, oneIf, select, sized, bySize, listOf, coresOf, cutsOf}
+use Rattle.sets.specs.Lists.{joined, oneIf, select, sized, bySize, listOf, coresOf}
 
 -- ---- a part is no longer than the whole
 
@@ -64,14 +64,10 @@ pub isCut-agree : (R : ℕ) (g h : ℕ → Bool) → ((S : ℕ) → S < 2 ^ R �
 unfolding isCut isCore breaks
 isCut-agree R g h same = isCore-agree R (breaks R g) (breaks R h) (λ S l. ap not (same (full R - S) (omega (arith, pow-pos R))))
 
--- So they have the same core list, and the same cut list.
+-- So they have the same core list.
 pub coresOf-agree : (R : ℕ) (g h : ℕ → Bool) → ((S : ℕ) → S < 2 ^ R → g S ≡ h S) → coresOf R g ≡ coresOf R h
 unfolding coresOf
 coresOf-agree R g h e = listOf-agree R (isCore g) (isCore h) (isCore-agree R g h e)
-
-pub cutsOf-agree : (R : ℕ) (g h : ℕ → Bool) → ((S : ℕ) → S < 2 ^ R → g S ≡ h S) → cutsOf R g ≡ cutsOf R h
-unfolding cutsOf
-cutsOf-agree R g h same = listOf-agree R (isCut R g) (isCut R h) (isCut-agree R g h same)
 
 -- ---- the length of the list by size
 

@@ -2,7 +2,7 @@
 -- Assumes nothing.
 use mathlib.Core.Path.{_∙_}
 use Rattle.cores.specs.declared.kinds.Kind.the-variants.{Must}
-use Rattle.cores.specs.Kinds.{ofKind}
+use Rattle.cores.specs.Which.{ofKind}
 use Rattle.codremif.specs.Laws.Answers.{is-read, is-refused}
 use Rattle.codremif.proofs.ListFacts.{few, kind-told, kind-found, kind-refused}
 use Rattle.codremif.proofs.kinds.give_must.Statement.{statement}

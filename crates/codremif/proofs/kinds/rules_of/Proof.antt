@@ -2,7 +2,8 @@
 use mathlib.Core.Path.{ap, _∙_}
 use borrow.Author.Needs.{needs}
 use Rattle.cores.specs.declared.kinds.Kind.the-variants.{Must, May, Irrelevant}
-use Rattle.cores.specs.Kinds.{kindsOf, ofKind}
+use Rattle.cores.specs.Which.{ofKind}
+use Rattle.cores.specs.Kinds.{kindsOf}
 use Rattle.codremif.proofs.ListFacts.{few, kind-told}
 use Rattle.codremif.proofs.kinds.rules_of.Statement.{statement}
 use Rattle.codremif.proofs.kinds.rules_of.Tie as tie
