@@ -10,8 +10,8 @@ use lib.Pow.{pow-mono}
 use lib.Seq.{length-take-le}
 use Rattle.sets.specs.Lists.{overwritten}
 use Rattle.semantics.specs.Laws.Filled.{repeats}
-use Rattle.cores.specs.Marks.{tableBy, Room}
-use Rattle.cores.specs.Laws.Marks.{length-tableBy}
+use Rattle.marks.specs.Marks.{tableBy, Room}
+use Rattle.marks.specs.Laws.Marks.{length-tableBy}
 use Rattle.analysis.specs.Finding.{RoomForSets}
 
 -- an array of n words as the code makes it

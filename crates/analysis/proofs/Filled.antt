@@ -20,14 +20,14 @@ use Rattle.semantics.specs.Meaning.{systemOf, judge}
 use Rattle.semantics.specs.TablesOf.{masksOf, tablesOf, RoomFor}
 use Rattle.models.specs.Laws.Written.{described-count}
 use Rattle.semantics.specs.Laws.Filled.{has-room, same-judge, same-trace, filled-monotone}
-use Rattle.cores.specs.declared.which.WhichList.{WhichList}
-use Rattle.cores.specs.declared.which.WhichList.the-variants.{Cores, Cuts}
-use Rattle.cores.specs.declared.kinds.Kinds.{Kinds}
-use Rattle.cores.specs.Kinds.{kindsBy, kindsOf}
-use Rattle.cores.specs.Marks.{marked, tableBy, Room}
-use Rattle.cores.specs.Laws.Marks.{tableBy-agree, front-room, front-listed}
+use Rattle.sorting.specs.declared.which.WhichList.{WhichList}
+use Rattle.sorting.specs.declared.which.WhichList.the-variants.{Cores, Cuts}
+use Rattle.sorting.specs.declared.kinds.Kinds.{Kinds}
+use Rattle.sorting.specs.Kinds.{kindsBy, kindsOf}
+use Rattle.marks.specs.Marks.{marked, tableBy, Room}
+use Rattle.marks.specs.Laws.Marks.{tableBy-agree, front-room, front-listed}
 use Rattle.cores.specs.Seeds.{Judges}
-use Rattle.cores.specs.Which.{listed}
+use Rattle.sorting.specs.Which.{listed}
 use Rattle.analysis.specs.Lists.{tableOf}
 use Rattle.analysis.specs.Finding.{RoomForSets}
 

@@ -2,7 +2,7 @@
 -- This is a definition.
 use Prim.Native.Nat.{ℕ}
 use mathlib.Core.List.{List}
-use Rattle.cores.specs.Marks.{Room}
+use Rattle.marks.specs.Marks.{Room}
 
 -- Each of the three tables has room for the marks of all sets of R rules.
 pub record RoomForSets (R : ℕ) (unknown cores cuts : List ℕ) : Type 0 where

@@ -6,8 +6,8 @@ use mathlib.Core.List.{List}
 use lib.Dec.{ltb}
 use lib.ListN.{length}
 use Rattle.sets.specs.Lists.{bytesOf, overwritten}
-use Rattle.cores.specs.declared.which.WhichList.{WhichList}
-use Rattle.cores.specs.declared.which.WhichList.the-variants.{Cores, Cuts}
+use Rattle.sorting.specs.declared.which.WhichList.{WhichList}
+use Rattle.sorting.specs.declared.which.WhichList.the-variants.{Cores, Cuts}
 use Rattle.analysis.specs.declared.lists.Listed.{Listed}
 use Rattle.analysis.specs.declared.lists.Listed.the-variants.{Count, TooShort}
 

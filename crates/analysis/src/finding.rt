@@ -6,7 +6,7 @@ ghost use Rattle.sets.specs.Lists.{overwritten};
 ghost use Rattle.models.specs.Written.{described};
 ghost use Rattle.semantics.specs.Meaning.{judge};
 ghost use Rattle.semantics.specs.TablesOf.{RoomFor, masksOf};
-ghost use Rattle.cores.specs.Marks.{tableBy};
+ghost use Rattle.marks.specs.Marks.{tableBy};
 ghost use Rattle.analysis.specs.Finding.{RoomForSets};
 use models::model::Model;
 
@@ -28,7 +28,7 @@ pub(crate) fn find(
     ensures { λ _. ⌜ now (unknown .exit) ≡ overwritten (tableBy (m .rules) (λ S. false)) (now (unknown .entry)) ⌝ }
 {
     let t = semantics::tables::fill(text, m, masks);
-    let words = cores::marks::word_count(m.rules);
+    let words = marks::table::word_count(m.rules);
     cores::seeds::find(
         masks,
         t,

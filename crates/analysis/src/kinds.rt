@@ -3,10 +3,10 @@ ghost use mathlib.Core.Path.{_≡_};
 ghost use Rattle.models.specs.Written.{described};
 ghost use Rattle.semantics.specs.Meaning.{judge};
 ghost use Rattle.semantics.specs.TablesOf.{RoomFor};
-ghost use Rattle.cores.specs.Kinds.{kindsOf};
+ghost use Rattle.sorting.specs.Kinds.{kindsOf};
 ghost use Rattle.analysis.specs.Few.{Few};
-use cores::kinds::Kinds;
 use models::model::Model;
+use sorting::kinds::Kinds;
 
 // The kinds, by masks in the lent room. Tables of 4 words are enough for at most 8 rules.
 fn kinds_with(text: &[u8], m: Model, masks: &mut [u16]) -> Kinds
@@ -18,13 +18,13 @@ fn kinds_with(text: &[u8], m: Model, masks: &mut [u16]) -> Kinds
         let mut cores = [0u64; 4];
         let mut cuts = [0u64; 4];
         crate::finding::find(text, m, masks, &mut unknown, &mut cores, &mut cuts);
-        cores::kinds::kinds_of(&cores, m.rules)
+        sorting::kinds::kinds_of(&cores, m.rules)
     } else {
         let mut unknown = [0u64; 1024];
         let mut cores = [0u64; 1024];
         let mut cuts = [0u64; 1024];
         crate::finding::find(text, m, masks, &mut unknown, &mut cores, &mut cuts);
-        cores::kinds::kinds_of(&cores, m.rules)
+        sorting::kinds::kinds_of(&cores, m.rules)
     }
 }
 

@@ -3,13 +3,13 @@ ghost use mathlib.Core.Path.{_≡_};
 ghost use Rattle.sets.specs.Lists.{listOf};
 ghost use Rattle.models.specs.Written.{described};
 ghost use Rattle.semantics.specs.Meaning.{judge};
-ghost use Rattle.cores.specs.Marks.{marked, Room};
-ghost use Rattle.cores.specs.Which.{listed};
+ghost use Rattle.marks.specs.Marks.{marked, Room};
+ghost use Rattle.sorting.specs.Which.{listed};
 ghost use Rattle.semantics.specs.TablesOf.{RoomFor};
 ghost use Rattle.analysis.specs.Few.{Few};
 ghost use Rattle.analysis.specs.Lists.{tableOf, listedAnswer, listedBytes};
-use cores::which::WhichList;
 use models::model::Model;
+use sorting::which::WhichList;
 
 // How many sets were written; or that the lent bytes are too few for the list, and then none was.
 pub enum Listed {
@@ -23,11 +23,11 @@ fn write(table: &[u64], rules: usize, lent: &mut [u8]) -> Listed
     ensures { λ r. ⌜ r ≡ listedAnswer (listOf rules (marked (now (table .entry)))) (now (lent .entry)) ⌝ }
     ensures { λ _. ⌜ now (lent .exit) ≡ listedBytes (listOf rules (marked (now (table .entry)))) (now (lent .entry)) ⌝ }
 {
-    let n = cores::writing::count(table, rules);
+    let n = sorting::writing::count(table, rules);
     if lent.len() / 2 < n {
         return Listed::TooShort;
     }
-    cores::writing::write_sorted(table, rules, lent);
+    sorting::writing::write_sorted(table, rules, lent);
     Listed::Count(n)
 }
 

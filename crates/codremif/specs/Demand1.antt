@@ -8,12 +8,12 @@ use mathlib.Core.List.{List, []}
 use lib.ListN.{length}
 use Rattle.models.specs.Refusals.{FitsAt, ComesBefore}
 use Rattle.systems.specs.System.{Trace}
-use Rattle.cores.specs.declared.which.WhichList.{WhichList}
-use Rattle.cores.specs.declared.kinds.Kind.{Kind}
-use Rattle.codremif.specs.declared.answers.JudgeAnswer.the-variants.{Refused as JudgeRefused}
-use Rattle.codremif.specs.declared.answers.ListAnswer.the-variants.{Refused as ListRefused}
-use Rattle.codremif.specs.declared.answers.SetAnswer.the-variants.{Refused as SetRefused}
-use Rattle.codremif.specs.Answers.{rulesIn, systemIn, listIn, judgeAnswer, judgeBytes, listAnswer, listBytes, kindAnswer}
+use Rattle.sorting.specs.declared.which.WhichList.{WhichList}
+use Rattle.sorting.specs.declared.kinds.Kind.{Kind}
+use Rattle.calls.specs.declared.answers.JudgeAnswer.the-variants.{Refused as JudgeRefused}
+use Rattle.calls.specs.declared.answers.ListAnswer.the-variants.{Refused as ListRefused}
+use Rattle.calls.specs.declared.answers.SetAnswer.the-variants.{Refused as SetRefused}
+use Rattle.calls.specs.Answers.{rulesIn, systemIn, listIn, judgeAnswer, judgeBytes, listAnswer, listBytes, kindAnswer}
 use Rattle.codremif.specs.Packing.{Parts, refused, judgeParts, listParts, setParts, packed}
 
 -- ---- the numbers of each call

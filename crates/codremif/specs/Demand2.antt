@@ -7,8 +7,8 @@ use mathlib.Core.Logic.{_↔_}
 use mathlib.Core.List.{List}
 use lib.ListN.{length, take, drop}
 use Rattle.systems.specs.System.{Breach, Trace}
-use Rattle.codremif.specs.declared.answers.JudgeAnswer.the-variants.{Refused as JudgeRefused, Holds, Broken}
-use Rattle.codremif.specs.Answers.{systemIn, judgeAnswer, judgeBytes}
+use Rattle.calls.specs.declared.answers.JudgeAnswer.the-variants.{Refused as JudgeRefused, Holds, Broken}
+use Rattle.calls.specs.Answers.{systemIn, judgeAnswer, judgeBytes}
 
 -- What judging set S answers and writes.
 pub record Demand2 (text : List ℕ) (S : ℕ) (lent : List ℕ) : Type 0 where

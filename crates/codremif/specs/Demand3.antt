@@ -10,16 +10,16 @@ use lib.ListN.{length}
 use Rattle.sets.specs.Lists.{bytesOf, overwritten}
 use Rattle.sets.specs.Demand3.{Demand3}
 use Rattle.systems.specs.System.{Breach}
-use Rattle.cores.specs.declared.which.WhichList.the-variants.{Cores, Cuts}
-use Rattle.cores.specs.declared.kinds.Kind.the-variants.{Must}
-use Rattle.codremif.specs.declared.answers.JudgeAnswer.{JudgeAnswer}
-use Rattle.codremif.specs.declared.answers.JudgeAnswer.the-variants.{Holds}
-use Rattle.codremif.specs.declared.answers.ListAnswer.{ListAnswer}
-use Rattle.codremif.specs.declared.answers.ListAnswer.the-variants.{Refused as ListRefused, Count}
-use Rattle.codremif.specs.declared.answers.SetAnswer.{SetAnswer}
-use Rattle.codremif.specs.declared.answers.SetAnswer.the-variants.{Set}
+use Rattle.sorting.specs.declared.which.WhichList.the-variants.{Cores, Cuts}
+use Rattle.sorting.specs.declared.kinds.Kind.the-variants.{Must}
+use Rattle.calls.specs.declared.answers.JudgeAnswer.{JudgeAnswer}
+use Rattle.calls.specs.declared.answers.JudgeAnswer.the-variants.{Holds}
+use Rattle.calls.specs.declared.answers.ListAnswer.{ListAnswer}
+use Rattle.calls.specs.declared.answers.ListAnswer.the-variants.{Refused as ListRefused, Count}
+use Rattle.calls.specs.declared.answers.SetAnswer.{SetAnswer}
+use Rattle.calls.specs.declared.answers.SetAnswer.the-variants.{Set}
 use Rattle.codremif.specs.declared.together.Together.{Together}
-use Rattle.codremif.specs.Answers.{rulesIn, systemIn, judgeAnswer, listAnswer, listBytes, kindAnswer}
+use Rattle.calls.specs.Answers.{rulesIn, systemIn, judgeAnswer, listAnswer, listBytes, kindAnswer}
 use Rattle.codremif.specs.Packing.{judgeParts, listParts, setParts, packed}
 
 -- ---- how calls tell their answers

@@ -20,8 +20,8 @@
 --   MUST, MAY and the irrelevant rules                 sets/specs/Kinds             30
 --   what a set keeps of a list                         sets/specs/Kept               7
 --   a model that is changed in its rules               models/specs/Changed         13
---   which list is meant, and which kind of rules       cores/specs/Which            13
---   what each call answers and writes                  codremif/specs/Answers       91
+--   which list is meant, and which kind of rules       sorting/specs/Which          13
+--   what each call answers and writes                  calls/specs/Answers          91
 --   an answer as one 64-bit number                     codremif/specs/Packing       46
 --   demand 1 for a text                                codremif/specs/Demand1       53
 --   demand 2 for a text                                codremif/specs/Demand2       16
@@ -35,9 +35,9 @@ use Rattle.models.specs.declared.model.Outcome.the-variants.{Accepted}
 use Rattle.models.specs.Written.{Described, Legal, writtenModel}
 use Rattle.models.specs.Accepted.{told-back}
 use Rattle.semantics.specs.Meaning.{systemOf}
-use Rattle.codremif.specs.declared.answers.ListAnswer.{ListAnswer}
-use Rattle.codremif.specs.declared.answers.SetAnswer.{SetAnswer}
-use Rattle.codremif.specs.Answers.{rulesIn, systemIn, textOutcome}
+use Rattle.calls.specs.declared.answers.ListAnswer.{ListAnswer}
+use Rattle.calls.specs.declared.answers.SetAnswer.{SetAnswer}
+use Rattle.calls.specs.Answers.{rulesIn, systemIn, textOutcome}
 use Rattle.codremif.specs.Demand1.{Demand1, HostDemand1}
 use Rattle.codremif.specs.Demand2.{Demand2}
 use Rattle.codremif.specs.Demand3.{inRattle, forHosts, Asked, TextDemand3, AsCalled, hostAsked}

@@ -6,14 +6,14 @@ use mathlib.Core.List.{List, [], _∷_, List·Memᴰ}
 use lib.ListN.{length}
 use Rattle.sets.specs.Lists.{bytesOf}
 use Rattle.lines.specs.Bytes.{endedLines}
-use Rattle.cores.specs.declared.which.WhichList.{WhichList}
-use Rattle.cores.specs.declared.which.WhichList.the-variants.{Cores, Cuts}
-use Rattle.codremif.specs.declared.answers.JudgeAnswer.{JudgeAnswer}
-use Rattle.codremif.specs.declared.answers.JudgeAnswer.the-variants.{Holds, Broken}
-use Rattle.codremif.specs.declared.answers.ListAnswer.the-variants.{Count}
-use Rattle.cores.specs.declared.kinds.Kind.the-variants.{Must}
-use Rattle.codremif.specs.declared.answers.SetAnswer.the-variants.{Set}
-use Rattle.codremif.specs.Answers.{Gives, judgeAnswer, judgeBytes, listAnswer, listBytes, kindAnswer}
+use Rattle.sorting.specs.declared.which.WhichList.{WhichList}
+use Rattle.sorting.specs.declared.which.WhichList.the-variants.{Cores, Cuts}
+use Rattle.calls.specs.declared.answers.JudgeAnswer.{JudgeAnswer}
+use Rattle.calls.specs.declared.answers.JudgeAnswer.the-variants.{Holds, Broken}
+use Rattle.calls.specs.declared.answers.ListAnswer.the-variants.{Count}
+use Rattle.sorting.specs.declared.kinds.Kind.the-variants.{Must}
+use Rattle.calls.specs.declared.answers.SetAnswer.the-variants.{Set}
+use Rattle.calls.specs.Answers.{Gives, judgeAnswer, judgeBytes, listAnswer, listBytes, kindAnswer}
 
 -- ---- the form of a case
 

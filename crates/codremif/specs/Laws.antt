@@ -1,5 +1,4 @@
 -- The laws of this crate: what is proved of the definitions that stand one folder above.
-pub mod Answers
 pub mod Packing
 pub mod Host
 pub mod Demand1

@@ -3,12 +3,12 @@
 use Prim.Native.Nat.{ℕ, _+_, _*_, _/_, _%_, _^_, _<_}
 use mathlib.Core.Path.{_≡_}
 use mathlib.Core.Bool.{Bool, true, false, cond}
-use Rattle.codremif.specs.declared.answers.JudgeAnswer.{JudgeAnswer}
-use Rattle.codremif.specs.declared.answers.JudgeAnswer.the-variants.{Refused as JudgeRefused, Holds, Broken}
-use Rattle.codremif.specs.declared.answers.ListAnswer.{ListAnswer}
-use Rattle.codremif.specs.declared.answers.ListAnswer.the-variants.{Refused as ListRefused, Count}
-use Rattle.codremif.specs.declared.answers.SetAnswer.{SetAnswer}
-use Rattle.codremif.specs.declared.answers.SetAnswer.the-variants.{Refused as SetRefused, Set}
+use Rattle.calls.specs.declared.answers.JudgeAnswer.{JudgeAnswer}
+use Rattle.calls.specs.declared.answers.JudgeAnswer.the-variants.{Refused as JudgeRefused, Holds, Broken}
+use Rattle.calls.specs.declared.answers.ListAnswer.{ListAnswer}
+use Rattle.calls.specs.declared.answers.ListAnswer.the-variants.{Refused as ListRefused, Count}
+use Rattle.calls.specs.declared.answers.SetAnswer.{SetAnswer}
+use Rattle.calls.specs.declared.answers.SetAnswer.the-variants.{Refused as SetRefused, Set}
 
 -- `amount` is the trace's length, the number of sets, or the set; `holds` is the verdict.
 pub record Parts : Type 0 where

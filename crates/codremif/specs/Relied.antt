@@ -13,12 +13,12 @@ use Rattle.lines.specs.Written.{LegalExpr}
 use Rattle.models.specs.declared.model.Outcome.the-variants.{Accepted}
 use Rattle.models.specs.Written.{Described, Legal, namesOf, writtenModel, modelIn}
 use Rattle.models.specs.Changed.{keeping, replacing}
-use Rattle.cores.specs.declared.which.WhichList.the-variants.{Cores, Cuts}
-use Rattle.cores.specs.declared.kinds.Kind.{Kind}
-use Rattle.cores.specs.declared.kinds.Kind.the-variants.{Must, May, Irrelevant}
-use Rattle.codremif.specs.declared.answers.JudgeAnswer.the-variants.{Holds}
-use Rattle.codremif.specs.declared.answers.SetAnswer.the-variants.{Set}
-use Rattle.codremif.specs.Answers.{rulesIn, listIn, kindIn, textOutcome, judgeAnswer, kindAnswer}
+use Rattle.sorting.specs.declared.which.WhichList.the-variants.{Cores, Cuts}
+use Rattle.sorting.specs.declared.kinds.Kind.{Kind}
+use Rattle.sorting.specs.declared.kinds.Kind.the-variants.{Must, May, Irrelevant}
+use Rattle.calls.specs.declared.answers.JudgeAnswer.the-variants.{Holds}
+use Rattle.calls.specs.declared.answers.SetAnswer.the-variants.{Set}
+use Rattle.calls.specs.Answers.{rulesIn, listIn, kindIn, textOutcome, judgeAnswer, kindAnswer}
 use Rattle.codremif.specs.Packing.{setParts, packed}
 
 -- ---- the kinds of rules

@@ -1,18 +1,18 @@
 // The calls for a C host: numbers and byte slices only. A slice is a pointer and a length to the host.
 ghost use mathlib.Core.Path.{_≡_};
-ghost use Rattle.cores.specs.declared.which.WhichList.the-variants.{Cores, Cuts};
-ghost use Rattle.cores.specs.declared.kinds.Kind.the-variants.{Must, May, Irrelevant};
-ghost use Rattle.codremif.specs.Answers.{judgeAnswer, judgeBytes, listAnswer, listBytes, kindAnswer};
+ghost use Rattle.sorting.specs.declared.which.WhichList.the-variants.{Cores, Cuts};
+ghost use Rattle.sorting.specs.declared.kinds.Kind.the-variants.{Must, May, Irrelevant};
+ghost use Rattle.calls.specs.Answers.{judgeAnswer, judgeBytes, listAnswer, listBytes, kindAnswer};
 ghost use Rattle.codremif.specs.Packing.{judgeParts, listParts, setParts, packed, versionNumber};
-use cores::kinds::Kind;
-use cores::which::WhichList;
+use sorting::kinds::Kind;
+use sorting::which::WhichList;
 
 #[no_mangle]
 pub extern "C" fn codremif_judge(text: &[u8], set: u32, trace: &mut [u8]) -> u64
     ensures { λ r. ⌜ r ≡ packed (judgeParts (judgeAnswer (now (text .entry)) set (now (trace .entry)))) ⌝ }
     ensures { λ _. ⌜ now (trace .exit) ≡ judgeBytes (now (text .entry)) set (now (trace .entry)) ⌝ }
 {
-    crate::packing::pack_judge(crate::judging::judge(text, set, trace))
+    crate::packing::pack_judge(calls::judging::judge(text, set, trace))
 }
 
 #[no_mangle]
@@ -20,7 +20,7 @@ pub extern "C" fn codremif_cores(text: &[u8], sets: &mut [u8]) -> u64
     ensures { λ r. ⌜ r ≡ packed (listParts (listAnswer Cores (now (text .entry)) (now (sets .entry)))) ⌝ }
     ensures { λ _. ⌜ now (sets .exit) ≡ listBytes Cores (now (text .entry)) (now (sets .entry)) ⌝ }
 {
-    crate::packing::pack_list(crate::listing::list(text, WhichList::Cores, sets))
+    crate::packing::pack_list(calls::listing::list(text, WhichList::Cores, sets))
 }
 
 #[no_mangle]
@@ -28,28 +28,28 @@ pub extern "C" fn codremif_cuts(text: &[u8], sets: &mut [u8]) -> u64
     ensures { λ r. ⌜ r ≡ packed (listParts (listAnswer Cuts (now (text .entry)) (now (sets .entry)))) ⌝ }
     ensures { λ _. ⌜ now (sets .exit) ≡ listBytes Cuts (now (text .entry)) (now (sets .entry)) ⌝ }
 {
-    crate::packing::pack_list(crate::listing::list(text, WhichList::Cuts, sets))
+    crate::packing::pack_list(calls::listing::list(text, WhichList::Cuts, sets))
 }
 
 #[no_mangle]
 pub extern "C" fn codremif_must(text: &[u8]) -> u64
     ensures { λ r. ⌜ r ≡ packed (setParts (kindAnswer Must (now (text .entry)))) ⌝ }
 {
-    crate::packing::pack_set(crate::kinds::give_must(text))
+    crate::packing::pack_set(calls::kinds::give_must(text))
 }
 
 #[no_mangle]
 pub extern "C" fn codremif_may(text: &[u8]) -> u64
     ensures { λ r. ⌜ r ≡ packed (setParts (kindAnswer May (now (text .entry)))) ⌝ }
 {
-    crate::packing::pack_set(crate::kinds::give(text, Kind::May))
+    crate::packing::pack_set(calls::kinds::give(text, Kind::May))
 }
 
 #[no_mangle]
 pub extern "C" fn codremif_irr(text: &[u8]) -> u64
     ensures { λ r. ⌜ r ≡ packed (setParts (kindAnswer Irrelevant (now (text .entry)))) ⌝ }
 {
-    crate::packing::pack_set(crate::kinds::give(text, Kind::Irrelevant))
+    crate::packing::pack_set(calls::kinds::give(text, Kind::Irrelevant))
 }
 
 // Which version of the part this is, as CODREMIF_VERSION of the header says it.

@@ -1,8 +1,4 @@
-// The calls on a model text: judge a set of rules, list the cores, list the cuts, give MUST, MAY or the irrelevant rules.
-pub mod answers;
+// The part: the calls for a C host, which gets each answer as one number, and the demands on them.
 pub mod host;
-pub mod judging;
-pub mod kinds;
-pub mod listing;
 mod packing;
 pub mod together;

@@ -1,9 +1,9 @@
 // An answer as the one 64-bit number that a C host gets.
 ghost use mathlib.Core.Path.{_≡_};
 ghost use Rattle.codremif.specs.Packing.{InRange, judgeParts, listParts, setParts, packed};
-use crate::answers::JudgeAnswer;
-use crate::answers::ListAnswer;
-use crate::answers::SetAnswer;
+use calls::answers::JudgeAnswer;
+use calls::answers::ListAnswer;
+use calls::answers::SetAnswer;
 
 // The number, plus 256 times the line, plus 65,536 times the amount, plus 2^40 for a verdict that holds.
 fn pack(number: u8, line: usize, amount: usize, holds: bool) -> u64

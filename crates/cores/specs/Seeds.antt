@@ -11,7 +11,7 @@ use Rattle.sets.specs.Sets.{_⊑_, with}
 use Rattle.sets.specs.Cores.{Core, Cut, Monotone, isCore, isCut}
 use Rattle.systems.specs.declared.tables.Tables.{Tables}
 use Rattle.systems.specs.ByTables.{HasRoom, judgeBy}
-use Rattle.cores.specs.Marks.{marked, NonePast, Marks}
+use Rattle.marks.specs.Marks.{marked, NonePast, Marks}
 
 -- Masks and tables that judge the sets of at most 16 rules, so that a set holds if a part of it does.
 pub record Judges (masks : List ℕ) (t : Tables) : Type 0 where

@@ -1,6 +1,2 @@
-// All cores, all cuts and MUST of a judgement by tables, and the lists of sets in lent bytes.
-pub mod kinds;
-pub mod marks;
+// All cores, all cuts and MUST of a judgement by tables.
 pub mod seeds;
-pub mod which;
-pub mod writing;

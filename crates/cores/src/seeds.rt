@@ -8,7 +8,7 @@ ghost use Rattle.sets.specs.Sets.{with};
 ghost use Rattle.sets.specs.Cores.{isCore, isCut};
 ghost use Rattle.sets.specs.Lists.{mustOf};
 ghost use Rattle.systems.specs.ByTables.{HasRoom, judgeBy};
-ghost use Rattle.cores.specs.Marks.{marked, tableBy};
+ghost use Rattle.marks.specs.Marks.{marked, tableBy};
 ghost use Rattle.cores.specs.Seeds.{Judges, Addable, Growable, Grown, Settleable, Settled, Fresh, AllFound, Findable, FullHolds};
 use sets::ruleset::RuleSet;
 use systems::tables::Tables;
@@ -25,7 +25,7 @@ fn stays_broken(masks: &[u16], t: Tables, unknown: &[u64], set: RuleSet, rule: u
     if set.has(rule) {
         return false;
     }
-    if !crate::marks::is_marked(unknown, more) {
+    if !marks::table::is_marked(unknown, more) {
         return false;
     }
     !systems::verdict::is_held(masks, t, more.0)
@@ -62,12 +62,12 @@ fn settle(
         (now (unknown .entry)) (now (unknown .exit)) (now (cores .exit)) (now (cuts .exit)) ⌝ }
 {
     if systems::verdict::is_held(masks, t, seed.0) {
-        crate::marks::clear_above(unknown, seed);
-        crate::marks::mark(cores, seed);
+        marks::table::clear_above(unknown, seed);
+        marks::table::mark(cores, seed);
     } else {
         let most = grow(masks, t, unknown, seed);
-        crate::marks::clear_below(unknown, most);
-        crate::marks::mark(cuts, RuleSet(RuleSet::full(t.rules).0 - most.0));
+        marks::table::clear_below(unknown, most);
+        marks::table::mark(cuts, RuleSet(RuleSet::full(t.rules).0 - most.0));
     }
 }
 
@@ -77,10 +77,10 @@ fn settle_all(masks: &[u16], t: Tables, unknown: &mut [u64], cores: &mut [u64], 
     ensures { λ _. ⌜ AllFound (t .rules) (judgeBy (now (masks .entry)) t) (now (unknown .exit)) (now (cores .exit)) (now (cuts .exit)) ⌝ }
 {
     let end = sets::ruleset::set_count(t.rules);
-    let mut s = crate::marks::next_marked(unknown, 0, end);
+    let mut s = marks::table::next_marked(unknown, 0, end);
     while s < end {
         settle(masks, t, unknown, cores, cuts, RuleSet(s as u16));
-        s = crate::marks::next_marked(unknown, s + 1, end);
+        s = marks::table::next_marked(unknown, s + 1, end);
     }
 }
 
@@ -91,10 +91,10 @@ pub fn find(masks: &[u16], t: Tables, unknown: &mut [u64], cores: &mut [u64], cu
     ensures { λ _. ⌜ now (cores .exit) ≡ tableBy (t .rules) (isCore (judgeBy (now (masks .entry)) t)) ⌝ }
     ensures { λ _. ⌜ now (cuts .exit) ≡ tableBy (t .rules) (isCut (t .rules) (judgeBy (now (masks .entry)) t)) ⌝ }
 {
-    let all = crate::marks::all_in_word(t.rules);
-    crate::marks::fill(unknown, all);
-    crate::marks::fill(cores, 0);
-    crate::marks::fill(cuts, 0);
+    let all = marks::table::all_in_word(t.rules);
+    marks::table::fill(unknown, all);
+    marks::table::fill(cores, 0);
+    marks::table::fill(cuts, 0);
     settle_all(masks, t, unknown, cores, cuts);
 }
 

@@ -1,13 +1,13 @@
 // The readings of edge texts: the number of the refusal and its line, 0 and 0 for a text that is accepted. What this program writes is
 // compared with the file `stdout` beside src/, which was written by hand from document 01.
 ghost use Prim.Native.Nat.{_≤_};
-use codremif::answers::JudgeAnswer;
-use codremif::answers::ListAnswer;
-use codremif::answers::SetAnswer;
-use cores::kinds::Kind;
-use cores::which::WhichList;
+use calls::answers::JudgeAnswer;
+use calls::answers::ListAnswer;
+use calls::answers::SetAnswer;
 use libc::STDOUT_FILENO;
 use models::model::Outcome;
+use sorting::kinds::Kind;
+use sorting::which::WhichList;
 
 fn show(name: &[u8], text: &[u8]) {
     let reading = models::model::read_model(text);
@@ -218,7 +218,7 @@ fn show_judged(name: &[u8], text: &[u8], set: u32, room: usize)
     requires { ⌜ room ≤ 8 ⌝ }
 {
     let mut lent = [201u8, 202, 203, 204, 205, 206, 207, 208];
-    let answer = codremif::judging::judge(text, set, &mut lent[..room]);
+    let answer = calls::judging::judge(text, set, &mut lent[..room]);
     io::write_all(STDOUT_FILENO, name);
     match answer {
         JudgeAnswer::Refused(number, line) => {
@@ -279,12 +279,12 @@ fn show_list(name: &[u8], text: &[u8], which: WhichList, room: usize)
     requires { ⌜ room ≤ 8 ⌝ }
 {
     let mut lent = [201u8, 202, 203, 204, 205, 206, 207, 208];
-    let answer = codremif::listing::list(text, which, &mut lent[..room]);
+    let answer = calls::listing::list(text, which, &mut lent[..room]);
     show_count(name, answer, lent);
 }
 
 fn show_kind(text: &[u8], key: &[u8], kind: Kind) {
-    let answer = codremif::kinds::give(text, kind);
+    let answer = calls::kinds::give(text, kind);
     io::write_all(STDOUT_FILENO, key);
     match answer {
         SetAnswer::Refused(number, line) => {

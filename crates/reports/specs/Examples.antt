@@ -6,8 +6,9 @@ use Rattle.exprs.specs.Token.{tokenOf}
 use Rattle.exprs.specs.Expr.{size}
 use Rattle.lines.specs.Bytes.{belongs, endedLines}
 use Rattle.semantics.specs.Meaning.{systemOf, judge}
-use Rattle.cores.specs.Which.{listed, ofKind}
-use Rattle.reports.specs.Report.{verdictLines, setLine, kindLines, listLines, modelReport, reportOf}
+use Rattle.sorting.specs.Which.{listed, ofKind}
+use Rattle.sections.specs.Sections.{verdictLines, setLine, kindLines, listLines}
+use Rattle.reports.specs.Report.{modelReport, reportOf}
 
 pub tremor-report : reportOf (endedLines ("vars=3" ∷ "rules=3" ∷ "init=!c" ∷ "prop=>c&ab" ∷ "rule=ra:>CA" ∷ "rule=rb:>CB" ∷ "rule=vote:>C&AB" ∷ []))
     ≡ endedLines ("verdict=holds" ∷ "must=-" ∷ "may=ra,rb,vote" ∷ "irr=-" ∷ "cores=2" ∷ "core=vote" ∷ "core=ra,rb" ∷ "cuts=2" ∷ "cut=ra,vote" ∷ "cut=rb,vote" ∷ [])

@@ -1,5 +1,2 @@
-mod names;
-mod numbers;
-mod page;
+// The report of a text, page by page.
 pub mod report;
-mod rows;

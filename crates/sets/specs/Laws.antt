@@ -4,6 +4,7 @@ pub mod Sets
 pub mod Cores
 pub mod Lists
 pub mod Gathered
+pub mod Next
 pub mod Tabulated
 pub mod Choice
 pub mod Rows

@@ -3,6 +3,7 @@
 pub mod Bit
 pub mod Tabulated
 pub mod Gathered
+pub mod Next
 pub mod Sets
 pub mod Cores
 pub mod Lists

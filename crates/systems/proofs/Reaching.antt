@@ -25,7 +25,7 @@ use Rattle.systems.specs.Laws.Walks.{walk-last, reached-start, reached-s
 use Rattle.systems.specs.Verdict.{holds}
 use Rattle.systems.specs.Laws.Holds.{holds-iff}
 use Rattle.systems.specs.declared.tables.Tables.{Tables}
-use Rattle.systems.specs.Next.{NextFrom, NextAny}
+use Rattle.sets.specs.Next.{NextFrom, NextAny}
 use Rattle.systems.specs.ByTables.{markAt, stepBy, systemBy, judgeBy}
 use Rattle.systems.specs.Marks.{markOf, isHit, isOpen, FirstMarks, RowMarked, RowWalked}
 

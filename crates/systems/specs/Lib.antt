@@ -3,7 +3,6 @@
 -- to be believed; what is proved of it stands in `Laws`. Assumes nothing.
 pub mod Least
 pub mod Count
-pub mod Next
 pub mod System
 pub mod Verdict
 pub mod Judged

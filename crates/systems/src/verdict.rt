@@ -4,7 +4,7 @@ ghost use Prim.Native.Nat.{_≤_, _<_};
 ghost use mathlib.Core.Path.{_≡_};
 ghost use lib.ListN.{length, getD};
 ghost use Rattle.systems.specs.Least.{any};
-ghost use Rattle.systems.specs.Next.{NextFrom, NextAny};
+ghost use Rattle.sets.specs.Next.{NextFrom, NextAny};
 ghost use Rattle.systems.specs.ByTables.{HasRoom, judgeBy};
 ghost use Rattle.systems.specs.Marks.{FirstMarks, RowMarked, Walkable, RowWalked, isHit, isOpen};
 use crate::tables::Tables;

@@ -16,14 +16,14 @@ use Rattle.models.specs.Laws.Refusals.{RightOutcome, none-fits, first-fits, rig
 use Rattle.systems.specs.System.{System, Trace}
 use Rattle.systems.specs.Verdict.{holds, traceOf}
 use Rattle.systems.specs.Judged.{judged}
-use Rattle.cores.specs.declared.which.WhichList.{WhichList}
-use Rattle.codremif.specs.declared.answers.JudgeAnswer.the-variants.{Refused as JudgeRefused}
-use Rattle.codremif.specs.declared.answers.ListAnswer.the-variants.{Refused as ListRefused, Count}
-use Rattle.codremif.specs.declared.answers.SetAnswer.the-variants.{Refused as SetRefused, Set}
-use Rattle.codremif.specs.Answers.{rulesIn, systemIn, traceIn, listIn, kindIn, textOutcome, judgeOutcome, listOutcome, given, after, judgeAnswer, judgeBytes, listAnswer, listBytes, kindAnswer}
+use Rattle.sorting.specs.declared.which.WhichList.{WhichList}
+use Rattle.calls.specs.declared.answers.JudgeAnswer.the-variants.{Refused as JudgeRefused}
+use Rattle.calls.specs.declared.answers.ListAnswer.the-variants.{Refused as ListRefused, Count}
+use Rattle.calls.specs.declared.answers.SetAnswer.the-variants.{Refused as SetRefused, Set}
+use Rattle.calls.specs.Answers.{rulesIn, systemIn, traceIn, listIn, kindIn, textOutcome, judgeOutcome, listOutcome, given, after, judgeAnswer, judgeBytes, listAnswer, listBytes, kindAnswer}
 use Rattle.codremif.specs.Packing.{Parts, refused, judgeParts, listParts, setParts, packed}
 use Rattle.codremif.specs.Demand1.{JudgeFits, judge-text, set-beyond, trace-longer, ListFits, list-text, list-longer, FirstOf, Refusals, Demand1, HostRefusals, HostDemand1}
-use Rattle.codremif.specs.Laws.Answers.{JudgeNumbers, ListNumbers, judge-numbers, list-numbers, given-refused, given-accepted, refusal-given, not-refused}
+use Rattle.calls.specs.Laws.Answers.{JudgeNumbers, ListNumbers, judge-numbers, list-numbers, given-refused, given-accepted, refusal-given, not-refused}
 use Rattle.codremif.specs.Laws.Host.{HostReads, judge-reads, list-reads, kind-reads}
 
 -- ---- the numbers of a text are 1 to 9

@@ -15,10 +15,10 @@ use Rattle.systems.specs.System.{System, Breach}
 use Rattle.systems.specs.Verdict.{holds}
 use Rattle.systems.specs.Laws.Walks.{holds-no-breach, no-breach-holds}
 use Rattle.systems.specs.Judged.{judged}
-use Rattle.codremif.specs.declared.answers.JudgeAnswer.the-variants.{Refused as JudgeRefused, Holds, Broken}
-use Rattle.codremif.specs.Answers.{rulesIn, systemIn, traceIn, textOutcome, verdictOf, judgeAnswer, judgeBytes}
+use Rattle.calls.specs.declared.answers.JudgeAnswer.the-variants.{Refused as JudgeRefused, Holds, Broken}
+use Rattle.calls.specs.Answers.{rulesIn, systemIn, traceIn, textOutcome, verdictOf, judgeAnswer, judgeBytes}
 use Rattle.codremif.specs.Demand2.{Demand2}
-use Rattle.codremif.specs.Laws.Answers.{judge-numbers, judge-enough, given-refused, verdict-held, held-verdict, broken-verdict, not-refused}
+use Rattle.calls.specs.Laws.Answers.{judge-numbers, judge-enough, given-refused, verdict-held, held-verdict, broken-verdict, not-refused}
 
 -- Judging a set is refused by 11, or answers the verdict and writes the trace.
 data Ends (text : List ℕ) (S : ℕ) (lent : List ℕ) : Type 0 where

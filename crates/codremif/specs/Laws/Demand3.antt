@@ -16,19 +16,19 @@ use Rattle.systems.specs.Laws.Walks.{holds-no-breach, no-breach-holds}
 use Rattle.systems.specs.Judged.{judged}
 use Rattle.semantics.specs.Meaning.{judge}
 use Rattle.semantics.specs.Laws.Meaning.{judge-monotone}
-use Rattle.cores.specs.declared.which.WhichList.{WhichList}
-use Rattle.cores.specs.declared.which.WhichList.the-variants.{Cores, Cuts}
-use Rattle.cores.specs.Which.{listed, ofKind}
-use Rattle.codremif.specs.declared.answers.JudgeAnswer.{JudgeAnswer}
-use Rattle.codremif.specs.declared.answers.JudgeAnswer.the-variants.{Refused as JudgeRefused, Holds, Broken}
-use Rattle.codremif.specs.declared.answers.ListAnswer.{ListAnswer}
-use Rattle.codremif.specs.declared.answers.ListAnswer.the-variants.{Refused as ListRefused}
-use Rattle.cores.specs.declared.kinds.Kind.the-variants.{Must}
-use Rattle.codremif.specs.declared.answers.SetAnswer.{SetAnswer}
-use Rattle.codremif.specs.Answers.{rulesIn, systemIn, judgeIn, listIn, kindIn, textOutcome, judgeAnswer, listAnswer, listBytes, after}
+use Rattle.sorting.specs.declared.which.WhichList.{WhichList}
+use Rattle.sorting.specs.declared.which.WhichList.the-variants.{Cores, Cuts}
+use Rattle.sorting.specs.Which.{listed, ofKind}
+use Rattle.calls.specs.declared.answers.JudgeAnswer.{JudgeAnswer}
+use Rattle.calls.specs.declared.answers.JudgeAnswer.the-variants.{Refused as JudgeRefused, Holds, Broken}
+use Rattle.calls.specs.declared.answers.ListAnswer.{ListAnswer}
+use Rattle.calls.specs.declared.answers.ListAnswer.the-variants.{Refused as ListRefused}
+use Rattle.sorting.specs.declared.kinds.Kind.the-variants.{Must}
+use Rattle.calls.specs.declared.answers.SetAnswer.{SetAnswer}
+use Rattle.calls.specs.Answers.{rulesIn, systemIn, judgeIn, listIn, kindIn, textOutcome, judgeAnswer, listAnswer, listBytes, after}
 use Rattle.codremif.specs.Packing.{accepted, refused, judgeParts, listParts, setParts, packed}
 use Rattle.codremif.specs.Demand3.{inRattle, forHosts, Asked, GivesList, TextDemand3, AsCalled, hostAsked}
-use Rattle.codremif.specs.Laws.Answers.{list-numbers, list-enough, kind-given, given-refused}
+use Rattle.calls.specs.Laws.Answers.{list-numbers, list-enough, kind-given, given-refused}
 use Rattle.codremif.specs.Laws.Demand2.{judging-meets-demand2}
 use Rattle.codremif.specs.Laws.Host.{judge-reads}
 

@@ -18,14 +18,14 @@ use Rattle.models.specs.declared.model.Outcome.the-variants.{Accepted}
 use Rattle.systems.specs.System.{System}
 use Rattle.systems.specs.Verdict.{holds, traceOf}
 use Rattle.systems.specs.Judged.{judged}
-use Rattle.cores.specs.declared.which.WhichList.{WhichList}
-use Rattle.cores.specs.declared.which.WhichList.the-variants.{Cores, Cuts}
-use Rattle.codremif.specs.declared.answers.JudgeAnswer.the-variants.{Holds, Broken}
-use Rattle.cores.specs.declared.kinds.Kind.the-variants.{Must}
-use Rattle.codremif.specs.declared.answers.SetAnswer.the-variants.{Set}
-use Rattle.codremif.specs.Answers.{rulesIn, systemIn, traceIn, listIn, kindIn, textOutcome, verdictOf}
+use Rattle.sorting.specs.declared.which.WhichList.{WhichList}
+use Rattle.sorting.specs.declared.which.WhichList.the-variants.{Cores, Cuts}
+use Rattle.calls.specs.declared.answers.JudgeAnswer.the-variants.{Holds, Broken}
+use Rattle.sorting.specs.declared.kinds.Kind.the-variants.{Must}
+use Rattle.calls.specs.declared.answers.SetAnswer.the-variants.{Set}
+use Rattle.calls.specs.Answers.{rulesIn, systemIn, traceIn, listIn, kindIn, textOutcome, verdictOf}
 use Rattle.codremif.specs.Examples.{Case, table, verdictFor, expectedList, Answered}
-use Rattle.codremif.specs.Laws.Answers.{judge-enough, list-enough, kind-given}
+use Rattle.calls.specs.Laws.Answers.{judge-enough, list-enough, kind-given}
 
 -- What is computed from the text of a case, and what the table expects.
 record Meaning : Type 0 where

@@ -1,38 +1,30 @@
 -- What a C host can read from the one number that a call gives it: every part of the answer, and by number 0 whether the call was accepted.
--- From the ranges of the parts: a trace has at most 128 states, a list at most 2^16 sets, a set of rules is below 2^16; and from one bound on the numbers
--- and lines of refusals, below 256. Assumes nothing.
-use Prim.Native.Nat.{ℕ, zero, suc, _*_, _^_, _≤_, _<_}
+-- From how large the parts can be: a trace has at most 128 states, a list at most 2^16 sets, a set of rules is below 2^16; and from one bound on the
+-- numbers and lines of refusals, below 256. Assumes nothing.
+use Prim.Native.Nat.{ℕ, _^_, _≤_, _<_}
 use mathlib.Core.Path.{_≡_, refl}
 use mathlib.Core.Logic.{_↔_}
 use mathlib.Core.Bool.{Bool, true, false, cond}
 use mathlib.Core.List.{List}
-use native.Mathlib.Nat.{suc-mul}
 use native.Mathlib.Omega.{arith}
 use lib.Dec.{leb, ltb}
-use lib.ListN.{length, length-append}
+use lib.ListN.{length}
 use lib.Pow.{pow-mono}
-use Rattle.sets.specs.Lists.{joined, oneIf, select, listOf, coresOf, cutsOf, bytesOf}
-use Rattle.sets.specs.Laws.Growth.{length-listOf}
-use Rattle.sets.specs.Laws.Must.{must-below}
-use Rattle.sets.specs.Laws.Kinds.{may-below, irrelevant-below}
+use Rattle.sets.specs.Lists.{bytesOf}
 use Rattle.models.specs.declared.model.Outcome.{Outcome}
 use Rattle.models.specs.declared.model.Outcome.the-variants.{Accepted, Refused}
 use Rattle.models.specs.Reading.{readModel}
 use Rattle.models.specs.Laws.Ranges.{Refusal, ranges}
 use Rattle.systems.specs.Verdict.{holds, traceOf}
-use Rattle.systems.specs.Judged.{judged}
-use Rattle.semantics.specs.Meaning.{systemOf}
-use Rattle.cores.specs.declared.which.WhichList.{WhichList}
-use Rattle.cores.specs.declared.which.WhichList.the-variants.{Cores, Cuts}
-use Rattle.cores.specs.Which.{listed, ofKind}
-use Rattle.cores.specs.declared.kinds.Kind.{Kind}
-use Rattle.cores.specs.declared.kinds.Kind.the-variants.{Must, May, Irrelevant}
-use Rattle.codremif.specs.declared.answers.JudgeAnswer.the-variants.{Refused as JudgeRefused, Holds, Broken}
-use Rattle.codremif.specs.declared.answers.ListAnswer.the-variants.{Refused as ListRefused}
-use Rattle.codremif.specs.declared.answers.SetAnswer.the-variants.{Refused as SetRefused}
-use Rattle.codremif.specs.Answers.{rulesIn, systemIn, judgeIn, traceIn, listIn, kindIn, _orElse_, refusedIf, textOutcome, judgeOutcome, listOutcome, given, verdictOf, judgeAnswer, listAnswer, kindAnswer}
+use Rattle.sorting.specs.declared.which.WhichList.{WhichList}
+use Rattle.sorting.specs.declared.kinds.Kind.{Kind}
+use Rattle.calls.specs.declared.answers.JudgeAnswer.the-variants.{Refused as JudgeRefused, Holds, Broken}
+use Rattle.calls.specs.declared.answers.ListAnswer.the-variants.{Refused as ListRefused}
+use Rattle.calls.specs.declared.answers.SetAnswer.the-variants.{Refused as SetRefused}
+use Rattle.calls.specs.Answers.{rulesIn, systemIn, traceIn, listIn, kindIn, _orElse_, refusedIf, textOutcome, judgeOutcome, listOutcome, given, verdictOf, judgeAnswer, listAnswer, kindAnswer}
 use Rattle.codremif.specs.Packing.{InRange, Parts, accepted, refused, judgeParts, listParts, setParts, packed, Unpacked}
-use Rattle.codremif.specs.Laws.Answers.{vars-most, rules-most}
+use Rattle.calls.specs.Laws.Answers.{rules-most}
+use Rattle.calls.specs.Laws.Sizes.{trace-le, list-le, kind-lt}
 use Rattle.codremif.specs.Laws.Packing.{unpacked}
 
 -- ---- the numbers and lines of refusals
@@ -74,42 +66,6 @@ unfolding listOutcome
 list-numbered which text lent =
     orElse-numbered (text-numbered text)
     (refusedIf-numbered (ltb (length lent) (length (bytesOf (listIn which text)))) 11 (omega arith) (omega arith))
-
--- ---- the lengths, counts and sets
-
-pub trace-le : (text : List ℕ) (S : ℕ) → length (traceIn text S) ≤ 128
-unfolding traceIn systemIn systemOf
-trace-le text S =
-    let h : length (traceOf (systemIn text S)) ≤ systemIn text S .size = judged (systemIn text S) .at-most-size in
-    omega (arith, pow-mono (vars-most text))
-
-joined-length : (g : ℕ → List ℕ) (most : ℕ) → ((k : ℕ) → length (g k) ≤ most) → (n : ℕ) → length (joined g n) ≤ n * most
-unfolding joined
-joined-length g most h zero = omega arith
-joined-length g most h (suc n) =
-    omega (arith, joined-length g most h n, h n, length-append (joined g n) (g n), suc-mul n most)
-
-pub select-length : (q : ℕ → Bool) (n : ℕ) → length (select q n) ≤ n
-unfolding select
-select-length q n = omega (arith, joined-length (λ S. oneIf (q S) S) 1 (λ S. at-most (q S) S) n)
-  where
-    at-most : (b : Bool) (S : ℕ) → length (oneIf b S) ≤ 1
-    at-most true S = omega arith
-    at-most false S = omega arith
-
-list-length : (R : ℕ) (q : ℕ → Bool) → R ≤ 16 → length (listOf R q) ≤ 65536
-list-length R q h = omega (arith, length-listOf R q, select-length q (2 ^ R), pow-mono h)
-
-pub list-le : (which : WhichList) (text : List ℕ) → length (listIn which text) ≤ 65536
-unfolding listIn listed coresOf cutsOf
-list-le Cores text = list-length (rulesIn text) _ (rules-most text)
-list-le Cuts text = list-length (rulesIn text) _ (rules-most text)
-
-pub kind-lt : (kind : Kind) (text : List ℕ) → kindIn kind text < 2 ^ rulesIn text
-unfolding kindIn ofKind
-kind-lt Must text = must-below (rulesIn text) (judgeIn text)
-kind-lt May text = may-below (rulesIn text) (judgeIn text)
-kind-lt Irrelevant text = irrelevant-below (rulesIn text) (judgeIn text)
 
 -- ---- what the host reads
 

@@ -30,15 +30,15 @@ use Rattle.models.specs.Changed.{keeping, replacing}
 use Rattle.models.specs.Laws.Changed.{length-keeping, keeping-legal, length-replacing, replacing-legal}
 use Rattle.semantics.specs.Meaning.{judge}
 use Rattle.semantics.specs.Laws.Changed.{judge-keeping, replacing-holds}
-use Rattle.cores.specs.declared.which.WhichList.{WhichList}
-use Rattle.cores.specs.declared.which.WhichList.the-variants.{Cores, Cuts}
-use Rattle.cores.specs.Which.{listed, ofKind}
-use Rattle.cores.specs.declared.kinds.Kind.the-variants.{Must, May}
-use Rattle.codremif.specs.declared.answers.JudgeAnswer.the-variants.{Holds}
-use Rattle.codremif.specs.Answers.{rulesIn, judgeIn, listIn, kindIn, textOutcome, judgeAnswer, kindAnswer}
+use Rattle.sorting.specs.declared.which.WhichList.{WhichList}
+use Rattle.sorting.specs.declared.which.WhichList.the-variants.{Cores, Cuts}
+use Rattle.sorting.specs.Which.{listed, ofKind}
+use Rattle.sorting.specs.declared.kinds.Kind.the-variants.{Must, May}
+use Rattle.calls.specs.declared.answers.JudgeAnswer.the-variants.{Holds}
+use Rattle.calls.specs.Answers.{rulesIn, judgeIn, listIn, kindIn, textOutcome, judgeAnswer}
 use Rattle.codremif.specs.Packing.{accepted, setParts, packed}
 use Rattle.codremif.specs.Relied.{InOneOf, SortedRules, namesIn, relevantIn, relevantModel, SameByName, Reducible, Replaceable, Relied}
-use Rattle.codremif.specs.Laws.Answers.{kind-given}
+use Rattle.calls.specs.Laws.Answers.{kind-given}
 use Rattle.codremif.specs.Laws.Demand3.{monotone-in, by-call}
 
 -- ---- the written form of a legal model

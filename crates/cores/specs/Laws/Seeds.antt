@@ -18,8 +18,8 @@ use Rattle.sets.specs.Laws.Sets.{part-iff, part-refl, part-trans, part-le, part
 use Rattle.sets.specs.Cores.{Core, Cut, Monotone, isCore, isCut}
 use Rattle.sets.specs.Laws.Cores.{isCore-iff, isCut-iff, false-if}
 use Rattle.sets.specs.Laws.Neighbours.{holds-above, broken-below}
-use Rattle.cores.specs.Marks.{marked, Marks, Changed}
-use Rattle.cores.specs.Laws.Marks.{past-stays}
+use Rattle.marks.specs.Marks.{marked, Marks}
+use Rattle.marks.specs.Laws.Marks.{Changed, past-stays}
 use Rattle.cores.specs.Seeds.{Known, Seed, Growable, Grown, Going, Settled, AllFound}
 
 -- ---- nothing is known at first

@@ -9,10 +9,10 @@ use borrow.Author.Needs.{needs}
 use lib.ListN.{length, take, length-replicate}
 use lib.Seq.{length-take-le}
 use Rattle.sets.specs.Lists.{overwritten}
-use Rattle.reports.specs.declared.report.Printed.{Printed}
-use Rattle.reports.specs.Page.{window, printedOf}
+use Rattle.pages.specs.declared.page.Printed.{Printed}
+use Rattle.pages.specs.Page.{window, printedOf}
 use Rattle.reports.specs.Report.{reportOf, judgedPart}
-use Rattle.reports.specs.Laws.Page.{window-fits, page-length, follows}
+use Rattle.pages.specs.Laws.Page.{window-fits, page-length, follows}
 use Rattle.report.proofs.main.Statement.{statement}
 use Rattle.report.proofs.main.Tie as tie
 

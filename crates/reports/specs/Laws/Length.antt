@@ -27,17 +27,19 @@ use Rattle.systems.specs.System.{System}
 use Rattle.systems.specs.Verdict.{holds, traceOf}
 use Rattle.systems.specs.Judged.{judged}
 use Rattle.semantics.specs.Meaning.{systemOf, judge}
-use Rattle.cores.specs.declared.which.WhichList.{WhichList}
-use Rattle.cores.specs.declared.which.WhichList.the-variants.{Cores, Cuts}
-use Rattle.cores.specs.declared.kinds.Kind.the-variants.{Must, May, Irrelevant}
-use Rattle.cores.specs.Which.{listed, ofKind}
-use Rattle.codremif.specs.Answers.{rulesIn, judgeIn, listIn, textOutcome}
-use Rattle.codremif.specs.Laws.Answers.{vars-most}
-use Rattle.codremif.specs.Laws.Host.{select-length, list-le}
-use Rattle.reports.specs.Page.{pagesFrom}
-use Rattle.reports.specs.Laws.Report.{set-text}
-use Rattle.reports.specs.Laws.Page.{pages-are-the-text}
-use Rattle.reports.specs.Report.{numberLine, separated, nameIn, setText, setLine, verdictLines, countKey, setKey, listLines, modelReport, refusalReport, reportOn, reportOf, kindLines}
+use Rattle.sorting.specs.declared.which.WhichList.{WhichList}
+use Rattle.sorting.specs.declared.which.WhichList.the-variants.{Cores, Cuts}
+use Rattle.sorting.specs.declared.kinds.Kind.the-variants.{Must, May, Irrelevant}
+use Rattle.sorting.specs.Which.{listed, ofKind}
+use Rattle.calls.specs.Answers.{rulesIn, judgeIn, listIn, textOutcome}
+use Rattle.calls.specs.Laws.Answers.{vars-most}
+use Rattle.calls.specs.Laws.Sizes.{select-length, list-le}
+use Rattle.pages.specs.Page.{pagesFrom}
+use Rattle.sections.specs.Laws.Sections.{set-text}
+use Rattle.pages.specs.Laws.Page.{pages-are-the-text}
+use Rattle.pages.specs.Numbers.{numberLine}
+use Rattle.sections.specs.Sections.{separated, nameIn, setText, setLine, verdictLines, countKey, setKey, listLines, kindLines}
+use Rattle.reports.specs.Report.{modelReport, refusalReport, reportOn, reportOf}
 
 -- ---- numbers
 

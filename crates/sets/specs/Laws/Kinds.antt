@@ -3,26 +3,25 @@
 -- rule alone, and the other way round.
 use Prim.Native.Nat.{ℕ, _-_, _^_, _<_}
 use mathlib.Core.Path.{_≡_, refl, sym, ap, _∙_}
-use mathlib.Core.Logic.{_↔_, _⊎_, inl, inr, ⊎-elim}
+use mathlib.Core.Logic.{_↔_, _⊎_, inl, inr}
 use mathlib.Core.Bool.{Bool, true, false, not, _&&_, true≢false, and-eq-true-iff}
-use mathlib.Core.List.{List, [], _∷_, List·Memᴰ·head, List·Memᴰ·tail, List·Memᴰ·not-nil, List·Memᴰ·cases-cons}
+use mathlib.Core.List.{[]}
 use native.Mathlib.Omega.{arith}
 use native.Mathlib.Nat.{sub-zero}
 use native.Mathlib.Decide.{ℕ-discrete}
-use lib.Pow.{pow-pos, lt-of-le-ones}
+use lib.Pow.{pow-pos}
 use borrow.Author.Tests.{not-true}
 use Rattle.sets.specs.Bit.{has, full}
-use Rattle.sets.specs.Laws.Bit.{has-or, has-le, has-zero, has-below, has-full, has-rest}
+use Rattle.sets.specs.Laws.Bit.{has-below, has-rest}
 use Rattle.sets.specs.Gathered.{setOf}
 use Rattle.sets.specs.Laws.Gathered.{setOf-lt, has-setOf, not-setOf}
 use Rattle.sets.specs.Sets.{_⊑_, without}
 use Rattle.sets.specs.Laws.Sets.{part-le, part-antisym, has-less, has-without, without-le, without-proper}
 use Rattle.sets.specs.Cores.{Core, Cut, Monotone, breaks}
 use Rattle.sets.specs.Laws.Cores.{false-if, breaks-iff, breaks-core}
-use Rattle.sets.specs.Demand3.{_∈_}
 use Rattle.sets.specs.Lists.{coresOf, mustOf}
 use Rattle.sets.specs.Laws.Listed.{coresOf-lists}
-use Rattle.sets.specs.Laws.Must.{must-iff, must-below}
+use Rattle.sets.specs.Laws.Must.{must-below}
 use Rattle.sets.specs.Laws.ByNumber.{has-together, common-together, together-below}
 use Rattle.sets.specs.Laws.Duality.{duality, breaks-monotone, breaks-cut}
 use Rattle.sets.specs.Kinds.{InSome, together, someOf, mayOf, irrelevantOf, Sorted}

@@ -1,12 +1,12 @@
 -- `analysis::finding::find` meets its contract: the words that are lent on are as many as the marks take, and what is found by the filled tables are
 -- the model's cores and cuts. Assumes nothing.
-use mathlib.Core.Path.{_≡_, sym, ap, _∙_}
+use mathlib.Core.Path.{ap, _∙_}
 use mathlib.Core.Bool.{false}
 use borrow.Author.Needs.{needs}
 use Rattle.sets.specs.Cores.{isCore, isCut}
 use Rattle.models.specs.Written.{described}
 use Rattle.semantics.specs.Meaning.{judge}
-use Rattle.cores.specs.Marks.{tableBy}
+use Rattle.marks.specs.Marks.{tableBy}
 use Rattle.analysis.proofs.Arrays.{long, size, back}
 use Rattle.analysis.proofs.Filled.{rules-are, judges, cores-are, cuts-are}
 use Rattle.analysis.proofs.finding.find.Statement.{statement}

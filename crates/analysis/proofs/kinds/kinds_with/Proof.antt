@@ -1,6 +1,5 @@
 -- `analysis::kinds::kinds_with` meets its contract: either tables have room for the sets of the rules, and what is read off the table of the cores are
 -- the kinds of the model's rules. Assumes nothing.
-use Prim.Native.Nat.{ℕ, _≤_}
 use native.Mathlib.Omega.{arith}
 use borrow.Author.Needs.{needs}
 use Rattle.models.specs.Written.{described}

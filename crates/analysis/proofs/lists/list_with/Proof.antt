@@ -1,7 +1,7 @@
 -- `analysis::lists::list_with` meets its contract: either tables have room for the sets of the rules, and what is read off them is the list that is
 -- meant. Assumes nothing.
-use Prim.Native.Nat.{ℕ, _≤_}
-use mathlib.Core.Path.{_≡_, ap, _∙_}
+use Prim.Native.Nat.{ℕ}
+use mathlib.Core.Path.{ap, _∙_}
 use mathlib.Core.Bool.{Bool}
 use mathlib.Core.List.{List}
 use native.Mathlib.Omega.{arith}

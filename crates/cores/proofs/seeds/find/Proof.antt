@@ -13,8 +13,8 @@ use Rattle.sets.specs.Laws.Bit.{has-zero}
 use Rattle.sets.specs.Laws.Cores.{false-if}
 use Rattle.sets.specs.Gathered.{setOf}
 use Rattle.sets.specs.Laws.Gathered.{has-setOf}
-use Rattle.cores.specs.Marks.{Marks}
-use Rattle.cores.specs.Laws.Marks.{repeated, is-tableBy}
+use Rattle.marks.specs.Marks.{Marks}
+use Rattle.marks.specs.Laws.Marks.{repeated, is-tableBy}
 use Rattle.cores.proofs.seeds.find.Statement.{statement}
 use Rattle.cores.proofs.seeds.find.Tie as tie
 

@@ -11,7 +11,7 @@ use Rattle.sets.specs.Bit.{has}
 use Rattle.sets.specs.Sets.{with}
 use Rattle.sets.specs.Laws.Sets.{with-above, with-below, part-trans}
 use Rattle.sets.specs.Cores.{Monotone}
-use Rattle.cores.specs.Marks.{marked}
+use Rattle.marks.specs.Marks.{marked}
 use Rattle.systems.specs.ByTables.{judgeBy}
 use Rattle.cores.specs.Seeds.{Growable, Grown}
 use Rattle.cores.specs.Laws.Seeds.{ungrown, grown-more, grown-same}

@@ -4,6 +4,7 @@ use Prim.Native.Nat.{ℕ, _-_}
 use mathlib.Core.Path.{sym, ap, _∙_}
 use native.Mathlib.Omega.{arith}
 use borrow.Author.Needs.{needs}
+use Rattle.marks.specs.Laws.Marks.{changed-is}
 use Rattle.cores.specs.Laws.Seeds.{seed-growable, settled-core, settled-cut}
 use Rattle.cores.proofs.seeds.settle.Statement.{statement}
 use Rattle.cores.proofs.seeds.settle.Tie as tie
@@ -37,16 +38,16 @@ settle-spec =
     (λ c κs. start (c .before .before .before .before .before .before .before .before) .pre .judges .few)
     (λ c. search needs)
     (λ c κs. search needs)
-    (λ c. c .before .before .before .before .before .before .clear-above .ensures .size)
-    (λ c. c .before .before .mark .ensures .size)
+    (λ c. changed-is (c .before .before .before .before .before .before .clear-above .ensures) .size)
+    (λ c. changed-is (c .before .before .mark .ensures) .size)
     (λ c.
     let h = held c in
     let p = start (h .before) .pre in
-    settled-core _ _ _ _ _ (p .going) (p .judges .more) _ (p .seed) (sym (h .before .is-held .ensures) ∙ h .if1 .taken) (c .before .before .before .before .before .before .clear-above .ensures) (c .before .before .mark .ensures))
-    (λ c. c .before .before .before .before .before .before .before .before .before .clear-below .ensures .size)
-    (λ c. c .before .before .mark2 .ensures .size)
+    settled-core _ _ _ _ _ (p .going) (p .judges .more) _ (p .seed) (sym (h .before .is-held .ensures) ∙ h .if1 .taken) (changed-is (c .before .before .before .before .before .before .clear-above .ensures)) (changed-is (c .before .before .mark .ensures)))
+    (λ c. changed-is (c .before .before .before .before .before .before .before .before .before .clear-below .ensures) .size)
+    (λ c. changed-is (c .before .before .mark2 .ensures) .size)
     (λ c.
     let f = rest c in
     let g = grown f in
     let p = start (g .before .before .before) .pre in
-    settled-cut _ _ _ _ _ (p .going) (p .judges .more) _ (p .seed) (g .grow .ensures) (ap (λ (x : ℕ). x - g .grow .result .0) (f .full .ensures)) (c .before .before .before .before .before .before .before .before .before .clear-below .ensures) (c .before .before .mark2 .ensures)))
+    settled-cut _ _ _ _ _ (p .going) (p .judges .more) _ (p .seed) (g .grow .ensures) (ap (λ (x : ℕ). x - g .grow .result .0) (f .full .ensures)) (changed-is (c .before .before .before .before .before .before .before .before .before .clear-below .ensures)) (changed-is (c .before .before .mark2 .ensures))))

@@ -9,9 +9,10 @@ use borrow.Author.Count.{below-more}
 use native.Mathlib.Decide.{decLt}
 use lib.ListN.{length}
 use lib.Pow.{pow-mono}
-use Rattle.systems.specs.Next.{NextFrom}
+use Rattle.sets.specs.Next.{NextFrom}
+use Rattle.sets.specs.Laws.Next.{next-is}
 use Rattle.systems.specs.ByTables.{judgeBy}
-use Rattle.cores.specs.Marks.{marked}
+use Rattle.marks.specs.Marks.{marked}
 use Rattle.cores.specs.Seeds.{Going, Seed, Settled, AllFound}
 use Rattle.cores.specs.Laws.Seeds.{all-unknown, none-unknown}
 use Rattle.cores.proofs.seeds.settle_all.Statement.{statement}
@@ -89,7 +90,7 @@ settle-all-spec =
     (λ c.
     let n = c .before .before in
     let p = counted n .pre in
-    (record { inUnknown = refl; inCores = refl; inCuts = refl }, begun _ _ _ _ _ _ _ (n .set-count .ensures) (all-unknown _ _ _ _ _ (p .allUnknown) (p .noCores) (p .noCuts)) (c .next-marked .ensures)))
+    (record { inUnknown = refl; inCores = refl; inCuts = refl }, begun _ _ _ _ _ _ _ (n .set-count .ensures) (all-unknown _ _ _ _ _ (p .allUnknown) (p .noCores) (p .noCuts)) (next-is _ (c .next-marked .ensures))))
     (λ c. let l = c .before .before .before in omega (arith, l .loop-test .taken, small _ _ _ _ _ _ _ (l .before .loop .inv .1)))
     (λ c κs.
     let l = c .before .before .before in
@@ -97,12 +98,12 @@ settle-all-spec =
     record { judges = start (l .before) .pre .judges; going = f .going; seed = seed _ _ _ _ _ _ _ f (l .loop-test .taken) })
     (λ c. let l = turn (settled c) in omega (arith, l .loop-test .taken, small _ _ _ _ _ _ _ (l .before .loop .inv .1)))
     (λ c κs. let f = turn (settled c) .before .loop .inv .1 in (small _ _ _ _ _ _ _ f, omega (arith, f .count, settled c .settle .ensures .going .roomUnknown)))
-    (λ c. let l = turn (settled (c .before)) in omega (arith, l .loop-test .taken, c .next-marked2 .ensures .after (omega (arith, l .loop-test .taken))))
+    (λ c. let l = turn (settled (c .before)) in omega (arith, l .loop-test .taken, next-is _ (c .next-marked2 .ensures) .after (omega (arith, l .loop-test .taken))))
     (λ c.
     let l = turn (settled (c .before)) in
     let i = l .before .loop .inv in (
       record { inUnknown = c .before .before .before .before .before .before .before .unknown .given ∙ i .0 .inUnknown; inCores = c .before .before .before .before .before .cores .given ∙ i .0 .inCores; inCuts = c .before .before .before .cuts .given ∙ i .0 .inCuts },
-      next _ _ _ _ _ _ _ (i .1) (l .loop-test .taken) _ _ _ _ (settled (c .before) .settle .ensures) (c .next-marked2 .ensures),
+      next _ _ _ _ _ _ _ (i .1) (l .loop-test .taken) _ _ _ _ (settled (c .before) .settle .ensures) (next-is _ (c .next-marked2 .ensures)),
     ))
     (λ c. c .before .loop .inv .0 .inUnknown)
     (λ c. c .before .loop .inv .0 .inCores)

@@ -6,7 +6,7 @@ use borrow.Author.Needs.{needs}
 use borrow.Author.Tests.{not-true, not-false}
 use Rattle.sets.specs.Sets.{with}
 use Rattle.systems.specs.ByTables.{judgeBy}
-use Rattle.cores.specs.Marks.{marked}
+use Rattle.marks.specs.Marks.{marked}
 use Rattle.cores.proofs.seeds.stays_broken.Statement.{statement}
 use Rattle.cores.proofs.seeds.stays_broken.Tie as tie
 

@@ -9,12 +9,13 @@ use Rattle.sets.specs.Bit.{full}
 use Rattle.models.specs.Written.{Described, modelIn}
 use Rattle.systems.specs.System.{System}
 use Rattle.semantics.specs.Meaning.{systemOf, judge}
-use Rattle.cores.specs.declared.which.WhichList.{WhichList}
-use Rattle.cores.specs.declared.which.WhichList.the-variants.{Cores, Cuts}
-use Rattle.cores.specs.Which.{listed}
-use Rattle.codremif.specs.Answers.{rulesIn, systemIn, judgeIn, listIn}
-use Rattle.reports.specs.Report.{verdictLines, kindLines, listLines, modelReport}
-use Rattle.reports.proofs.Putting.{put-as, both-put}
+use Rattle.sorting.specs.declared.which.WhichList.{WhichList}
+use Rattle.sorting.specs.declared.which.WhichList.the-variants.{Cores, Cuts}
+use Rattle.sorting.specs.Which.{listed}
+use Rattle.calls.specs.Answers.{rulesIn, systemIn, judgeIn, listIn}
+use Rattle.sections.specs.Sections.{verdictLines, kindLines, listLines}
+use Rattle.reports.specs.Report.{modelReport}
+use Rattle.pages.specs.Laws.Putting.{put-as, both-put}
 use Rattle.reports.proofs.report.model_report.Statement.{statement}
 use Rattle.reports.proofs.report.model_report.Tie as tie
 

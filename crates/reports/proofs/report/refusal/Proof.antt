@@ -1,7 +1,7 @@
 -- `reports::report::refusal` meets its contract: the two lines are put one after the other. Assumes nothing.
 use borrow.Author.Needs.{needs}
 use Rattle.reports.specs.Report.{refusalReport}
-use Rattle.reports.proofs.Putting.{both-put}
+use Rattle.pages.specs.Laws.Putting.{both-put}
 use Rattle.reports.proofs.report.refusal.Statement.{statement}
 use Rattle.reports.proofs.report.refusal.Tie as tie
 

@@ -8,8 +8,8 @@ use native.Mathlib.Omega.{arith}
 use borrow.Author.Needs.{needs}
 use lib.ListN.{length}
 use Rattle.sets.specs.Lists.{overwritten}
-use Rattle.reports.specs.Page.{Page, put, window, printedOf}
-use Rattle.reports.specs.Laws.Page.{Taken, page-taken, printed-is, next-within}
+use Rattle.pages.specs.Page.{Page, put, window, printedOf}
+use Rattle.pages.specs.Laws.Page.{Taken, page-taken, printed-is, next-within}
 use Rattle.reports.specs.Laws.Length.{report-length}
 use Rattle.reports.specs.Report.{reportOf, judgedPart}
 use Rattle.reports.proofs.report.report.Statement.{statement}

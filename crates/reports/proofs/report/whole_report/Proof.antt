@@ -6,10 +6,10 @@ use borrow.Author.Needs.{needs}
 use Rattle.models.specs.declared.model.Outcome.{Outcome}
 use Rattle.models.specs.declared.model.Outcome.the-variants.{Accepted, Refused}
 use Rattle.models.specs.Written.{modelIn}
-use Rattle.codremif.specs.Answers.{textOutcome}
-use Rattle.codremif.specs.Laws.Answers.{is-read, is-refused}
+use Rattle.calls.specs.Answers.{textOutcome}
+use Rattle.calls.specs.Laws.Answers.{is-read, is-refused}
 use Rattle.reports.specs.Report.{modelReport, refusalReport, reportOn, reportOf}
-use Rattle.reports.proofs.Putting.{put-as}
+use Rattle.pages.specs.Laws.Putting.{put-as}
 use Rattle.reports.proofs.report.whole_report.Statement.{statement}
 use Rattle.reports.proofs.report.whole_report.Tie as tie
 

@@ -1,3 +1,0 @@
-mod Putting
-mod Naming
-mod Called
