@@ -16,6 +16,12 @@
  *   codremif_may     MAY: the rules that some core has, but not all cores have
  *   codremif_irr     the irrelevant rules: those that no core has
  *
+ * Two calls read no text. They look a set up in a list of cores and a list of cuts, for a screen
+ * that has both lists already and asks at each click:
+ *
+ *   codremif_suffices  is a listed core inside the set? If not: is a listed cut apart from it?
+ *   codremif_witness   at which byte of its list does that core or cut stand?
+ *
  * One more, codremif_version, tells which library is linked.
  *
  * Build. `rt staticlib codremif` at the repository's top proves the library and writes
@@ -34,6 +40,17 @@
  *         ... codremif_number(answer), codremif_line(answer) and codremif_words say why ...
  *     for (size_t i = 0; i < codremif_count(answer); i++)
  *         ... codremif_set_at(sets, i) is a core: rule k is in it if bit k of it is set ...
+ *
+ *   With the list of its cores, of `cores_len` bytes, the list of its cuts, of `cuts_len`, and a
+ *   chosen set:
+ *
+ *     uint64_t answer = codremif_suffices(set, cores, cores_len, cuts, cuts_len);
+ *     uint64_t byte_place = codremif_witness(set, cores, cores_len, cuts, cuts_len);
+ *     const uint8_t *witness = codremif_witness_bytes(answer, byte_place, cores, cuts);
+ *     if (codremif_said(answer) == CODREMIF_CORE_INSIDE)
+ *         ... the set suffices: it has every rule of the core codremif_set_at(witness, 0) ...
+ *     if (codremif_said(answer) == CODREMIF_CUT_APART)
+ *         ... it does not: it has no rule of the cut codremif_set_at(witness, 0) ...
  *
  * The model text. Lines, each ended by byte 10, in this order and with no others:
  *
@@ -63,6 +80,20 @@
  *   A list (of cores or of cuts) has two bytes for each set, low byte first (codremif_set_at
  *   reads one), fewer rules first, then the smaller set number first. Each set stands in it once.
  *
+ * Looking a set up. A listed core is inside a set if each of its rules is in the set. A listed cut
+ *   is apart from a set if none of its rules is in the set. The core list is searched first, for
+ *   the first listed core that is inside. Only where there is none, the cut list is searched, for
+ *   the first listed cut that is apart. The core or the cut that is found is the witness. Where
+ *   neither is found, the set is unlisted.
+ *   With both whole lists of an accepted model, and a set that the model has, unlisted never
+ *   occurs: a core is inside exactly where codremif_judge says that the set holds, and a cut is
+ *   apart exactly where it says that the set is broken.
+ *   The calls do not ask whose lists they are. A list may have any even count of bytes, more than
+ *   any model's and none at all, with the sets in any order and more than once. The set may have
+ *   rules that the model lacks. It is looked up as it stands, all 32 bits of it: a listed set has
+ *   the rules 0 to 15 and no other. Set 0 as a listed core is inside every set, and as a listed
+ *   cut it is apart from every set.
+ *
  * Kinds. Each rule is in exactly one of MUST, MAY and the irrelevant rules. Where some rule is in
  *   a core, the model without its irrelevant rules has the same cores by name. Where the property
  *   holds, one rule outside MUST may get any other legal expression, and it still holds; with
@@ -73,29 +104,32 @@
  *   and the one cut is set 0. If set 0 holds, it is the one core, and there is no cut. In both
  *   cases MUST and MAY are 0, and every rule is irrelevant: these three do not say which it is.
  *
- * Who owns what. The caller owns all memory. The text is only read. Lent bytes (`trace`, `sets`)
- *   are written from their start, and bytes past the trace or the list keep their content; what
- *   they held before makes no difference to an answer. No pointer is kept after the call. The
- *   calls need no alignment.
+ * Who owns what. The caller owns all memory. The text is only read, and so are the two lists in
+ *   which a set is looked up (`cores`, `cuts`). Lent bytes (`trace`, `sets`) are written from
+ *   their start, and bytes past the trace or the list keep their content; what they held before
+ *   makes no difference to an answer. No pointer is kept after the call. A witness is two bytes
+ *   of the caller's own list and no copy. The calls need no alignment.
  *
  * What the host answers for. Each pointer leads to as many bytes as the length beside it says,
- *   and lent bytes overlap nothing else that is handed over. While a call runs nothing else
- *   writes the text, and nothing else reads or writes the lent bytes. Nothing can check these,
- *   and if they fail nothing is promised. With a length of 0 the pointer is not used and may be
- *   NULL. Everything else may be handed over: any bytes, any length, any set number. Every call
- *   ends, with an answer or refused.
+ *   and lent bytes overlap nothing else that is handed over. The two lists in which a set is
+ *   looked up are not lent: they may overlap, and may be the same memory. While a call runs
+ *   nothing else writes the text or these lists, and nothing else reads or writes the lent bytes.
+ *   Nothing can check these, and if they fail nothing is promised. With a length of 0 the pointer
+ *   is not used and may be NULL. Everything else may be handed over: any bytes, any length, any
+ *   set number. Every call ends, with an answer or refused.
  *
  * A refused call. Its answer has the number and the line of the first ground that fits (enum
- *   codremif_refusal), and every other part of it is 0: the verdict then reads broken, and the
- *   length, count or set reads 0. So ask codremif_accepted first. No lent byte has changed.
+ *   codremif_refusal), and every other part of it is 0: the verdict then reads broken, the
+ *   length, count or set reads 0, and a set that is looked up reads unlisted. So ask
+ *   codremif_accepted first. No lent byte has changed.
  *
  * How much to lend. A call does not tell how many bytes it would have needed. Lend
  *   CODREMIF_TRACE_BYTES or CODREMIF_LIST_BYTES: these are enough for every model, and such a
  *   call is never refused by 11.
  *
  * Threads and signals. The library has no global state and nothing in it is written: any number
- *   of threads may call it at once, on the same text too, with lent bytes of their own. It
- *   installs no signal handler and raises no signal. For the same reason a signal handler may
+ *   of threads may call it at once, on the same text or lists too, with lent bytes of their own.
+ *   It installs no signal handler and raises no signal. For the same reason a signal handler may
  *   call it, also where the signal came in the middle of a call, if the handler's stack has the
  *   room (below) and the lent bytes are its own.
  *
@@ -109,7 +143,9 @@
  *   machine of today; so do the lists of nearly every model. The time of a list grows with the
  *   cores and cuts: where a model has thousands of both it takes some ten milliseconds (40 is the
  *   most that was seen, on models/pages/eight_pages.txt). MAY and the irrelevant rules take as
- *   long as a list. This is measured, not proved. That a call ends is proved.
+ *   long as a list. Looking a set up takes at most 2 nanoseconds for each listed set that is
+ *   passed over, and a few beside: 52 microseconds for two lists of CODREMIF_LIST_SETS. This is
+ *   measured, not proved. That a call ends is proved.
  *
  * Stack. A call takes all its memory from the caller's stack: CODREMIF_STACK_BYTES at most, below
  *   the frame of the caller, what memcpy and memset take included. hosts/c measures it, and adds
@@ -145,8 +181,8 @@ extern "C" {
 #endif
 
 /* The version that this header belongs to: major * 1,000,000 + minor * 1,000 + patch. */
-#define CODREMIF_VERSION 1001000
-#define CODREMIF_VERSION_STRING "1.1.0"
+#define CODREMIF_VERSION 1002000
+#define CODREMIF_VERSION_STRING "1.2.0"
 
 /* An accepted text has at most so many bytes: two counts, `init`, `prop` and 16 rules at their
  * longest. */
@@ -161,12 +197,15 @@ extern "C" {
 /* A trace has at most so many bytes: each of the 2^7 states once. */
 #define CODREMIF_TRACE_BYTES 128
 
-/* A list has at most so many sets: no core is a part of another, nor is a cut, and of 16 rules at
- * most 16 over 8 sets are such (Sperner). */
+/* The list of a model has at most so many sets: no core is a part of another, nor is a cut, and of
+ * 16 rules at most 16 over 8 sets are such (Sperner). */
 #define CODREMIF_LIST_SETS 12870
 
-/* A list has at most so many bytes. */
+/* The list of a model has at most so many bytes. */
 #define CODREMIF_LIST_BYTES 25740
+
+/* What codremif_witness gives where there is no witness; no list has such a byte place. */
+#define CODREMIF_NO_WITNESS ((uint64_t)-1)
 
 /* The stack that a call needs: each, and the most of them. hosts/c/stack.c measures it and
  * hosts/c/frames adds it up; both fail where these say too little. */
@@ -176,12 +215,15 @@ extern "C" {
 #define CODREMIF_MUST_STACK_BYTES 65536
 #define CODREMIF_MAY_STACK_BYTES 131072
 #define CODREMIF_IRR_STACK_BYTES 131072
+#define CODREMIF_SUFFICES_STACK_BYTES 1024
+#define CODREMIF_WITNESS_STACK_BYTES 1024
 #define CODREMIF_STACK_BYTES 131072
 
 /*
  * Why a call is refused; docs/FORMAT.md has an example of each. Numbers 1 to 8 are tried line by
- * line, in this order within a line; after the whole text come 9, 10 and 11. The first line is 1;
- * a number that concerns no line gives line 0. codremif_words has the same words.
+ * line, in this order within a line; after the whole text come 9, 10 and 11. The two calls that
+ * read no text try 12 and nothing else. The first line is 1; a number that concerns no line gives
+ * line 0. codremif_words has the same words.
  */
 enum codremif_refusal {
     /* Where no number fits, the call is accepted. */
@@ -208,7 +250,20 @@ enum codremif_refusal {
     /* The judged set is 2^R or more (line 0). */
     CODREMIF_NO_SUCH_SET = 10,
     /* The lent bytes are fewer than this answer's trace or list needs (line 0). */
-    CODREMIF_TOO_FEW_BYTES = 11
+    CODREMIF_TOO_FEW_BYTES = 11,
+    /* A list has an odd count of bytes (line 0). */
+    CODREMIF_ODD_LIST = 12
+};
+
+/* What codremif_suffices says of a set. */
+enum codremif_lookup {
+    /* No listed core is inside the set, and no listed cut is apart from it. It also reads so where
+     * the call is refused. */
+    CODREMIF_UNLISTED = 0,
+    /* A listed core is inside the set. */
+    CODREMIF_CORE_INSIDE = 1,
+    /* No listed core is inside the set, and a listed cut is apart from it. */
+    CODREMIF_CUT_APART = 2
 };
 
 /* An answer that nobody looks at may be a refusal: compilers that can warn of it do. */
@@ -220,8 +275,8 @@ enum codremif_refusal {
 
 /*
  * The calls. Each answer is one 64-bit number: the number of the refusal (0: accepted), plus 256
- * times the line, plus 65,536 times the length, count or set, plus 2^40 for a verdict that holds.
- * Take it apart with the functions below.
+ * times the line, plus 65,536 times the length, count, set or what is said of a set, plus 2^40 for
+ * a verdict that holds or a core inside. Take it apart with the functions below.
  */
 
 /*
@@ -267,6 +322,25 @@ CODREMIF_LOOK_AT_IT
 uint64_t codremif_irr(const uint8_t *text, size_t text_len);
 
 /*
+ * Looks a set up in two lists, two bytes for each set as codremif_cores and codremif_cuts write
+ * them. Accepted: codremif_said. Refused by 12 (cores_len or cuts_len is odd, or both are).
+ * It is given no text and lends nothing.
+ */
+CODREMIF_LOOK_AT_IT
+uint64_t codremif_suffices(uint32_t set, const uint8_t *cores, size_t cores_len,
+                           const uint8_t *cuts, size_t cuts_len);
+
+/*
+ * Given the same as codremif_suffices, gives the byte place of the witness: where the first of its
+ * two bytes stands, counted from 0, in `cores` if a listed core is inside the set, else in `cuts`.
+ * CODREMIF_NO_WITNESS where the set is unlisted, and where codremif_suffices is refused. It is no
+ * answer to be taken apart; codremif_witness_bytes makes a pointer of it.
+ */
+CODREMIF_LOOK_AT_IT
+uint64_t codremif_witness(uint32_t set, const uint8_t *cores, size_t cores_len,
+                          const uint8_t *cuts, size_t cuts_len);
+
+/*
  * Gives the library's version, as CODREMIF_VERSION gives the header's. It is no answer to be
  * taken apart. Not less than CODREMIF_VERSION, and the same when divided by 1,000,000: the
  * library has all that the header declares.
@@ -295,7 +369,8 @@ static inline unsigned codremif_line(uint64_t answer)
     return (answer >> 8) & 0xFF;
 }
 
-/* Of codremif_judge: 1 if the set holds; 0 if it is broken, and if the call is refused. */
+/* Of codremif_judge: 1 if the set holds; 0 if it is broken, and if the call is refused.
+ * Of codremif_suffices: 1 if a listed core is inside the set; else 0. */
 static inline int codremif_holds(uint64_t answer)
 {
     return (answer >> 40) & 1;
@@ -319,7 +394,29 @@ static inline uint32_t codremif_set(uint64_t answer)
     return (answer >> 16) & 0xFFFFFF;
 }
 
-/* The set at a place of a list, the first is 0. The place is less than codremif_count says. */
+/* Of codremif_suffices: what it says of the set, one of enum codremif_lookup. */
+static inline unsigned codremif_said(uint64_t answer)
+{
+    return (answer >> 16) & 0xFFFFFF;
+}
+
+/* Of codremif_suffices and codremif_witness, both given the same set and lists: the two bytes of
+ * the witness, in the list that holds it; codremif_set_at(them, 0) is the set. NULL where the set
+ * is unlisted, and where the calls are refused. */
+static inline const uint8_t *codremif_witness_bytes(uint64_t answer, uint64_t byte_place,
+                                                    const uint8_t *cores, const uint8_t *cuts)
+{
+    if (byte_place == CODREMIF_NO_WITNESS)
+        return NULL;
+    switch (codremif_said(answer)) {
+    case CODREMIF_CORE_INSIDE: return cores + byte_place;
+    case CODREMIF_CUT_APART: return cuts + byte_place;
+    default: return NULL;
+    }
+}
+
+/* The set at a place of a list, counted in sets: the first is 0. The place is less than
+ * codremif_count says. */
 static inline uint32_t codremif_set_at(const uint8_t *sets, size_t place)
 {
     return sets[2 * place] + 256u * sets[2 * place + 1];
@@ -345,6 +442,7 @@ static inline const char *codremif_words(unsigned number)
     case CODREMIF_NO_SUCH_SET: return "The judged set is 2^R or more (line 0).";
     case CODREMIF_TOO_FEW_BYTES: return "The lent bytes are fewer than this answer's trace or "
         "list needs (line 0).";
+    case CODREMIF_ODD_LIST: return "A list has an odd count of bytes (line 0).";
     default: return "";
     }
 }

@@ -1,6 +1,7 @@
 /*
- * Tests of the calls as a C host makes them. What is expected is written by hand from docs/FORMAT.md. Each text stands in a block of its
- * own length, and each lent slice between guards, so that valgrind, and without it the guards, see a byte too many.
+ * Tests of the calls as a C host makes them; lookups.c has those of the two that read no text. What is expected is written by hand from
+ * docs/FORMAT.md. Each text stands in a block of its own length, and each lent slice between guards, so that valgrind, and without it the guards, see
+ * a byte too many.
  */
 #define _XOPEN_SOURCE 700
 #include <pthread.h>
@@ -131,13 +132,14 @@ static void test_refusals(void)
     const enum codremif_refusal in_order[] = {
         CODREMIF_ACCEPTED, CODREMIF_LINE_DUE, CODREMIF_COUNT, CODREMIF_NAME, CODREMIF_NAME_TWICE, CODREMIF_EXPRESSION_LENGTH,
         CODREMIF_BYTE, CODREMIF_LETTER, CODREMIF_NOT_ONE, CODREMIF_BYTES_FOLLOW, CODREMIF_NO_SUCH_SET, CODREMIF_TOO_FEW_BYTES,
+        CODREMIF_ODD_LIST,
     };
-    int numbers = sizeof in_order / sizeof in_order[0] == 12, words = codremif_words(12)[0] == '\0';
-    for (unsigned number = 0; number <= 11; number++) {
+    int numbers = sizeof in_order / sizeof in_order[0] == 13, words = codremif_words(13)[0] == '\0';
+    for (unsigned number = 0; number <= 12; number++) {
         numbers = numbers && in_order[number] == number;
         words = words && codremif_words(number)[0] != '\0';
     }
-    check(numbers, "the refusals have the numbers 0 to 11");
+    check(numbers, "the refusals have the numbers 0 to 12");
     check(words, "each of them has words, and no other number has");
 }
 
@@ -376,7 +378,7 @@ static void test_bases(void)
 }
 
 struct answers {
-    uint64_t judge, cores, cuts, must, may, irr;
+    uint64_t judge, cores, cuts, must, may, irr, suffices, witness;
     uint8_t trace[CODREMIF_TRACE_BYTES], core_sets[CODREMIF_LIST_BYTES], cut_sets[CODREMIF_LIST_BYTES];
 };
 
@@ -390,6 +392,9 @@ static void ask_all(const struct model *model, struct answers *answers)
     answers->must = codremif_must(text, model->length);
     answers->may = codremif_may(text, model->length);
     answers->irr = codremif_irr(text, model->length);
+    size_t cores_len = 2 * codremif_count(answers->cores), cuts_len = 2 * codremif_count(answers->cuts);
+    answers->suffices = codremif_suffices(2, answers->core_sets, cores_len, answers->cut_sets, cuts_len);
+    answers->witness = codremif_witness(2, answers->core_sets, cores_len, answers->cut_sets, cuts_len);
 }
 
 #define MODELS 3

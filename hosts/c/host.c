@@ -2,8 +2,9 @@
  * A small C host: host MODEL-FILE [SET]
  *
  * Reads a model file, judges the set of rules (the full set if none is given) and prints the verdict, the trace if it is broken, MUST, MAY, the
- * irrelevant rules, the cores and the cuts, each set as its number and its names. Exit status and messages are those of ./report: 0 answered;
- * 1 refused, with one line on standard error; 2 wrong use, or something could not be read or written.
+ * irrelevant rules, the cores and the cuts, each set as its number and its names. Last, it looks the set up in the two lists, as a screen does that
+ * has them already: `inside=` is the first core inside the set, `apart=` the first cut apart from it. Exit status and messages are those of ./report:
+ * 0 answered; 1 refused, with one line on standard error; 2 wrong use, or something could not be read or written.
  */
 #include <errno.h>
 #include <stdio.h>
@@ -21,6 +22,11 @@ enum status { ANSWERED = 0, REFUSED = 1, FAILED = 2 };
 
 struct text {
     uint8_t bytes[READ_BYTES];
+    size_t length;
+};
+
+struct list {
+    uint8_t bytes[CODREMIF_LIST_BYTES];
     size_t length;
 };
 
@@ -88,15 +94,30 @@ static int show_set(const char *key, set_call call, const struct text *text)
     return 1;
 }
 
-static int show_list(const char *key, list_call call, const struct text *text)
+static int show_list(const char *key, list_call call, const struct text *text, struct list *list)
 {
-    uint8_t sets[CODREMIF_LIST_BYTES];
-    uint64_t answer = call(text->bytes, text->length, sets, sizeof sets);
+    uint64_t answer = call(text->bytes, text->length, list->bytes, sizeof list->bytes);
     if (!accepted(answer))
         return 0;
+    list->length = 2 * codremif_count(answer);
     printf("%ss=%lu\n", key, (unsigned long)codremif_count(answer));
     for (size_t i = 0; i < codremif_count(answer); i++)
-        print_set(key, text, codremif_set_at(sets, i));
+        print_set(key, text, codremif_set_at(list->bytes, i));
+    return 1;
+}
+
+/* The quick answer: no text is read for it, only the names are. In the lists of a model none of its sets is unlisted. */
+static int show_witness(const struct text *text, uint32_t set, const struct list *cores, const struct list *cuts)
+{
+    uint64_t answer = codremif_suffices(set, cores->bytes, cores->length, cuts->bytes, cuts->length);
+    uint64_t byte_place = codremif_witness(set, cores->bytes, cores->length, cuts->bytes, cuts->length);
+    const uint8_t *witness = codremif_witness_bytes(answer, byte_place, cores->bytes, cuts->bytes);
+    if (!accepted(answer))
+        return 0;
+    if (witness == NULL)
+        printf("unlisted\n");
+    else
+        print_set(codremif_said(answer) == CODREMIF_CORE_INSIDE ? "inside" : "apart", text, codremif_set_at(witness, 0));
     return 1;
 }
 
@@ -123,6 +144,7 @@ static enum status written(enum status status)
 
 int main(int argc, char **argv)
 {
+    static struct list cores, cuts;
     struct text text;
     uint32_t set = 0;
     if (argc == 2 && strcmp(argv[1], "--help") == 0) {
@@ -147,7 +169,8 @@ int main(int argc, char **argv)
     if (argc == 2)
         set = codremif_full_set(text.bytes, text.length);
     if (!show_verdict(&text, set) || !show_set("must", codremif_must, &text) || !show_set("may", codremif_may, &text) ||
-        !show_set("irr", codremif_irr, &text) || !show_list("core", codremif_cores, &text) || !show_list("cut", codremif_cuts, &text))
+        !show_set("irr", codremif_irr, &text) || !show_list("core", codremif_cores, &text, &cores) ||
+        !show_list("cut", codremif_cuts, &text, &cuts) || !show_witness(&text, set, &cores, &cuts))
         return written(REFUSED);
     return written(ANSWERED);
 }

@@ -1,6 +1,7 @@
 /*
  * Measures the stack that each call needs, and holds the header's statements to it. Each call runs on a thread whose stack is a painted block;
- * the deepest byte that has lost its paint tells the need. The models are the largest and the deepest, accepted and refused.
+ * the deepest byte that has lost its paint tells the need. The models are the largest and the deepest, accepted and refused; the lists are the
+ * longest of a model.
  * Without valgrind: to it, bytes below the stack pointer are nobody's to read.
  */
 #define _POSIX_C_SOURCE 200809L
@@ -17,7 +18,10 @@
 #define PAINT 0xA5
 #define ROUND_BYTES 65536
 
-enum call { JUDGE, CORES, CUTS, MUST, MAY, IRR, CALLS };
+/* What a call without an array may be stated to need: so little is not rounded up as the others are. */
+#define SMALL_BYTES 1024
+
+enum call { JUDGE, CORES, CUTS, MUST, MAY, IRR, SUFFICES, WITNESS, CALLS };
 
 static const struct {
     const char *name;
@@ -29,7 +33,12 @@ static const struct {
     {"codremif_must", CODREMIF_MUST_STACK_BYTES},
     {"codremif_may", CODREMIF_MAY_STACK_BYTES},
     {"codremif_irr", CODREMIF_IRR_STACK_BYTES},
+    {"codremif_suffices", CODREMIF_SUFFICES_STACK_BYTES},
+    {"codremif_witness", CODREMIF_WITNESS_STACK_BYTES},
 };
+
+/* What is lent to a call, or handed over as both lists to one that looks a set up. */
+static uint8_t lent[CODREMIF_LIST_BYTES];
 
 static size_t most[CALLS];
 static size_t widest_gap;
@@ -65,7 +74,9 @@ static uint64_t ask(const struct run *run)
     case CUTS: return codremif_cuts(text, length, run->lent, run->lent_length);
     case MUST: return codremif_must(text, length);
     case MAY: return codremif_may(text, length);
-    default: return codremif_irr(text, length);
+    case IRR: return codremif_irr(text, length);
+    case SUFFICES: return codremif_suffices(run->set, run->lent, run->lent_length, run->lent, run->lent_length);
+    default: return codremif_witness(run->set, run->lent, run->lent_length, run->lent, run->lent_length);
     }
 }
 
@@ -105,7 +116,6 @@ static void run_on(struct run *run)
 
 static uint64_t measure(const struct model *model, enum call call, uint32_t set, size_t lent_length)
 {
-    static uint8_t lent[CODREMIF_LIST_BYTES];
     static void *stack;
     if (stack == NULL && posix_memalign(&stack, PAGE_BYTES, BLOCK_BYTES) != 0)
         exit(2);
@@ -180,12 +190,32 @@ static void measure_refused(void)
     measure_all(&model, CODREMIF_LINE_DUE);
 }
 
-/* Stated enough, not more than four times too much, and the painted block was larger by far. */
+/* Both calls that look a set up: the first set found, the last found, none found, and a list that is refused. */
+static void measure_lookups(void)
+{
+    struct model none;
+    model_text(&none, "");
+    /* each set has all the rules but one of the first eight, and the last has no rule */
+    for (size_t i = 0; i < CODREMIF_LIST_BYTES; i++)
+        lent[i] = i + 2 >= CODREMIF_LIST_BYTES ? 0 : i % 2 == 1 ? 0xFF : (uint8_t)~(1 << i / 2 % 8);
+    for (enum call call = SUFFICES; call <= WITNESS; call++) {
+        uint64_t first = measure(&none, call, 0xFFFFFFFE, CODREMIF_LIST_BYTES), last = measure(&none, call, 0xFF, CODREMIF_LIST_BYTES);
+        uint64_t nothing = measure(&none, call, 0x100, CODREMIF_LIST_BYTES - 2), odd = measure(&none, call, 0, CODREMIF_LIST_BYTES - 1);
+        if (call == SUFFICES)
+            as_meant = codremif_said(first) == CODREMIF_CORE_INSIDE && codremif_said(last) == CODREMIF_CORE_INSIDE && as_meant;
+        else
+            as_meant = first == 0 && last == CODREMIF_LIST_BYTES - 2 && as_meant;
+        as_meant = nothing == (call == SUFFICES ? CODREMIF_UNLISTED : CODREMIF_NO_WITNESS) && as_meant;
+        as_meant = odd == (call == SUFFICES ? CODREMIF_ODD_LIST : CODREMIF_NO_WITNESS) && as_meant;
+    }
+}
+
+/* Stated enough, not more than four times too much or else small, and the painted block was larger by far. */
 static void hold_to(const char *name, size_t stated, size_t need)
 {
     char what[160];
     snprintf(what, sizeof what, "%s needs %zu bytes of stack, and the header states %zu", name, need, stated);
-    check(need < BLOCK_BYTES / 2 && need <= stated && stated <= 4 * need && stated % ROUND_BYTES == 0, what);
+    check(need < BLOCK_BYTES / 2 && need <= stated && (stated == SMALL_BYTES || (stated <= 4 * need && stated % ROUND_BYTES == 0)), what);
 }
 
 int main(void)
@@ -193,12 +223,13 @@ int main(void)
     size_t all = 0;
     measure_accepted();
     measure_refused();
+    measure_lookups();
     for (enum call call = JUDGE; call < CALLS; call++) {
         hold_to(calls[call].name, calls[call].stated, most[call]);
         all = calls[call].stated > all ? calls[call].stated : all;
     }
     check(all == CODREMIF_STACK_BYTES, "CODREMIF_STACK_BYTES is the most of them");
     check(widest_gap < PAGE_BYTES, "no page of the stack is passed over");
-    check(as_meant, "each model is accepted or refused as it is meant to be");
+    check(as_meant, "each model and each list is accepted or refused as it is meant to be");
     return failures != 0;
 }

@@ -1,8 +1,8 @@
 /*
  * texts COUNT: tests of what the header itself reads: how many rules an accepted text has, its full set and the names of its rules. Random models are
- * written here, so what is expected is known, and the library is asked whether it sees as many rules, and whether MUST, MAY and the irrelevant rules
- * make up the full set. Each text stands in a block of its own length, so that valgrind sees a byte too many; cut-off and damaged texts must do no
- * harm.
+ * written here, so what is expected is known, and the library is asked whether it sees as many rules, whether MUST, MAY and the irrelevant rules
+ * make up the full set, and whether what is said of a set that is looked up in the two lists agrees with judging it. Each text stands in a block of
+ * its own length, so that valgrind sees a byte too many; cut-off and damaged texts must do no harm.
  */
 #include <stdio.h>
 #include <stdlib.h>
@@ -130,6 +130,50 @@ static void test_random_models(unsigned count)
     check(kinds_agree, "random models: each rule is in exactly one of MUST, MAY and the irrelevant rules");
 }
 
+/* What was said of the sets of random models that were looked up in the models' own lists. */
+struct said {
+    unsigned inside, apart, unlisted, unlike_judged, no_witness;
+};
+
+/* Looks some sets of the model up. The witness has to be what it is said to be: a core inside the set, or a cut apart from it. */
+static void look_up(const uint8_t *text, size_t text_len, struct said *said)
+{
+    static uint8_t cores[CODREMIF_LIST_BYTES], cuts[CODREMIF_LIST_BYTES];
+    uint8_t trace[CODREMIF_TRACE_BYTES];
+    size_t cores_len = 2 * codremif_count(codremif_cores(text, text_len, cores, sizeof cores));
+    size_t cuts_len = 2 * codremif_count(codremif_cuts(text, text_len, cuts, sizeof cuts));
+    for (unsigned i = 0; i < 8; i++) {
+        uint32_t set = below(codremif_full_set(text, text_len) + 1);
+        uint64_t answer = codremif_suffices(set, cores, cores_len, cuts, cuts_len);
+        const uint8_t *witness = codremif_witness_bytes(answer, codremif_witness(set, cores, cores_len, cuts, cuts_len), cores, cuts);
+        int inside = codremif_said(answer) == CODREMIF_CORE_INSIDE, apart = codremif_said(answer) == CODREMIF_CUT_APART;
+        said->inside += inside;
+        said->apart += apart;
+        said->unlisted += !inside && !apart;
+        said->unlike_judged += codremif_holds(codremif_judge(text, text_len, set, trace, sizeof trace)) != inside;
+        if (witness == NULL || (codremif_set_at(witness, 0) & set) != (inside ? codremif_set_at(witness, 0) : 0))
+            said->no_witness++;
+    }
+}
+
+static void test_random_lookups(unsigned count)
+{
+    struct said said = {0, 0, 0, 0, 0};
+    for (unsigned i = 0; i < count; i++) {
+        struct model model;
+        char names[CODREMIF_RULES][CODREMIF_NAME_BYTES + 1];
+        random_model(&model, names);
+        uint8_t *text = copy(model.text, model.length);
+        look_up(text, model.length, &said);
+        free(text);
+    }
+    check(said.inside > count && said.apart > count && said.inside + said.apart == 8 * count,
+          "random models: sets are looked up in the lists of their model, with a core inside and with a cut apart");
+    check(said.unlisted == 0, "random models: no set is unlisted");
+    check(said.unlike_judged == 0, "random models: a core is inside a set exactly when the set holds");
+    check(said.no_witness == 0, "random models: the witness is a core inside the set, or a cut apart from it");
+}
+
 /* Of a text that is not accepted nothing is promised but that nothing outside it is read. */
 static void test_other_texts(void)
 {
@@ -167,7 +211,9 @@ static void test_longest_names(void)
 
 int main(int argc, char **argv)
 {
-    test_random_models(argc == 2 ? (unsigned)strtoul(argv[1], NULL, 10) : 0);
+    unsigned count = argc == 2 ? (unsigned)strtoul(argv[1], NULL, 10) : 0;
+    test_random_models(count);
+    test_random_lookups(count);
     test_other_texts();
     test_longest_names();
     return failures != 0;

@@ -7,7 +7,7 @@ use Rattle.models.specs.declared.model.Model.{Model}
 use Rattle.models.specs.declared.model.Outcome.the-variants.{Accepted}
 use Rattle.models.specs.Reading.{readModel}
 use Rattle.analysis.specs.declared.lists.Listed.{Listed}
-use Rattle.analysis.specs.declared.lists.Listed.the-variants.{Count as Found, TooShort}
+use Rattle.analysis.specs.declared.lists.Listed.the-variants.{Count as Counted, TooShort}
 use Rattle.calls.specs.declared.answers.ListAnswer.{ListAnswer}
 use Rattle.calls.specs.declared.answers.ListAnswer.the-variants.{Refused as ListRefused, Count}
 use Rattle.calls.specs.Answers.{textOutcome}
@@ -24,5 +24,5 @@ pub record IsRead (text : List ℕ) (m : Model) : Type 0 where
 
 -- What finding the list of an accepted text says, as an answer: too short is number 11.
 unfoldable pub ofListed : Listed → ListAnswer
-ofListed (Found n) = Count n
+ofListed (Counted n) = Count n
 ofListed TooShort = ListRefused 11 0

@@ -1,11 +1,11 @@
--- The demands of the mission, as theorems about what exactly the calls of this crate answer and write. Nothing is assumed.
--- To believe them, read these files below crates/ in this order (lines without imports and blank lines, 1,154 in all). What is proved of their
+-- The demands of the mission, as theorems about what exactly the calls answer and write. Nothing is assumed.
+-- To believe them, read these files below crates/ in this order (lines without imports and blank lines, 1,321 in all). What is proved of their
 -- definitions stands in `Laws` and need not be read, and neither need the functions that compute (the reading of a text, the verdict, the lists):
 -- the theorems say what they give.
 --   a number as a set of rules or of letters           sets/specs/Bit                8
 --   expressions, their value and their written form    exprs/specs/Expr             42
 --   a number in base ten                               lines/specs/Decimal          10
---   bytes, and those of a name                         lines/specs/Bytes            47
+--   bytes, and those of a name                         lines/specs/Bytes            41
 --   a legal rule and its line                          lines/specs/Written          40
 --   a model, when it is legal, its written form        models/specs/Written         57
 --   accepted texts are exactly these                   models/specs/Accepted        34
@@ -13,7 +13,7 @@
 --   the reading answers with the first that fits       models/specs/Refused         29
 --   runs, reached, holds, the trace                    systems/specs/System         51
 --   the transition system of a model and a set         semantics/specs/Meaning      30
---   parts, sharing a rule, the order of a list         sets/specs/Sets              27
+--   parts, sharing a rule, the order of a list         sets/specs/Sets              30
 --   cores and cuts of any judgement                    sets/specs/Cores             33
 --   the bytes of a list, and lent bytes                sets/specs/Lists             53
 --   demand 3 for any judgement                         sets/specs/Demand3           49
@@ -22,11 +22,15 @@
 --   a model that is changed in its rules               models/specs/Changed         13
 --   which list is meant, and which kind of rules       sorting/specs/Which          13
 --   what each call answers and writes                  calls/specs/Answers          91
---   an answer as one 64-bit number                     codremif/specs/Packing       46
+--   a list in bytes, and the first set that fits       lookup/specs/Search          29
+--   where a part of a slice lies                       slices/specs/Address          8
+--   what two lists say of a set, and the witness       lookup/specs/Suffices        56
+--   an answer as one 64-bit number                     codremif/specs/Packing       59
 --   demand 1 for a text                                codremif/specs/Demand1       53
 --   demand 2 for a text                                codremif/specs/Demand2       16
 --   demand 3 for a text                                codremif/specs/Demand3       89
 --   rules that nobody relies on, for a text            codremif/specs/Relied        68
+--   the quick answer, for any lists and for a text's   codremif/specs/Suffices      64
 --   the starred examples                               codremif/specs/Examples     112
 use Prim.Native.Nat.{ℕ, _^_, _<_}
 use mathlib.Core.Path.{_≡_, ap}
@@ -43,11 +47,13 @@ use Rattle.codremif.specs.Demand2.{Demand2}
 use Rattle.codremif.specs.Demand3.{inRattle, forHosts, Asked, TextDemand3, AsCalled, hostAsked}
 use Rattle.codremif.specs.Examples.{Case, table, Answered}
 use Rattle.codremif.specs.Relied.{Relied}
+use Rattle.codremif.specs.Suffices.{QuickAnswer}
 use Rattle.codremif.specs.Laws.Demand1.{calls-meet-demand1, hosts-meet-demand1}
 use Rattle.codremif.specs.Laws.Demand2.{judging-meets-demand2}
 use Rattle.codremif.specs.Laws.Examples.{table-answered}
 use Rattle.codremif.specs.Laws.Demand3.{calls-meet-demand3, hosts-meet-demand3}
 use Rattle.codremif.specs.Laws.Relied.{relied}
+use Rattle.codremif.specs.Laws.Suffices.{the-quick-answer}
 
 -- A text that is written from a legal model means what the model means: the runs of each set of rules are the model's.
 pub meaning : (M : Described) → Legal M → (S : ℕ) → systemIn (writtenModel M) S ≡ systemOf M S
@@ -82,3 +88,8 @@ examples = table-answered
 -- left out and a rule outside MUST replaced.
 pub rules-nobody-relies-on : (text : List ℕ) → textOutcome text ≡ Accepted → Relied text
 rules-nobody-relies-on = relied
+
+-- The quick answer in the configuration screen: for every set and any two lists, what the calls say is there; and for every accepted text, every set of
+-- its rules, and its lists as the calls wrote them, no set is unlisted, and the answer is that of judging it.
+pub quick-answer : QuickAnswer
+quick-answer = the-quick-answer

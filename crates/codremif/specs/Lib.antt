@@ -6,5 +6,6 @@ pub mod Demand2
 pub mod Demand3
 pub mod Examples
 pub mod Relied
+pub mod Suffices
 pub mod Laws
 pub mod Demands

@@ -1,8 +1,10 @@
 -- An answer in the parts that document 01 names, the same for every call, and as the one 64-bit number that a C host gets.
--- From document 01, "Calls" and "When a call is turned away". Assumes nothing: these are definitions.
-use Prim.Native.Nat.{ℕ, _+_, _*_, _/_, _%_, _^_, _<_}
+-- From document 01, "Calls" and "When a call is turned away", and document 02. Assumes nothing: these are definitions.
+use Prim.Native.Nat.{ℕ, _+_, _-_, _*_, _/_, _%_, _^_, _<_}
 use mathlib.Core.Path.{_≡_}
 use mathlib.Core.Bool.{Bool, true, false, cond}
+use Rattle.lookup.specs.declared.answer.SufficesAnswer.{SufficesAnswer}
+use Rattle.lookup.specs.declared.answer.SufficesAnswer.the-variants.{Refused as SufficesRefused, CoreInside, CutApart, Unlisted}
 use Rattle.calls.specs.declared.answers.JudgeAnswer.{JudgeAnswer}
 use Rattle.calls.specs.declared.answers.JudgeAnswer.the-variants.{Refused as JudgeRefused, Holds, Broken}
 use Rattle.calls.specs.declared.answers.ListAnswer.{ListAnswer}
@@ -10,7 +12,7 @@ use Rattle.calls.specs.declared.answers.ListAnswer.the-variants.{Refused as Lis
 use Rattle.calls.specs.declared.answers.SetAnswer.{SetAnswer}
 use Rattle.calls.specs.declared.answers.SetAnswer.the-variants.{Refused as SetRefused, Set}
 
--- `amount` is the trace's length, the number of sets, or the set; `holds` is the verdict.
+-- `amount` is the trace's length, the number of sets, the set, or what two lists say; `holds` is the verdict, and that a listed core is inside.
 pub record Parts : Type 0 where
   pub number : ℕ
   pub line : ℕ
@@ -41,9 +43,24 @@ unfolding accepted refused
 setParts (SetRefused number line) = refused number line
 setParts (Set S) = accepted S false
 
+-- 1 where a listed core is inside, 2 where a listed cut is apart, 0 for unlisted.
+unfoldable pub sufficesParts : SufficesAnswer → Parts
+unfolding accepted refused
+sufficesParts (SufficesRefused number line) = refused number line
+sufficesParts (CoreInside place) = accepted 1 true
+sufficesParts (CutApart place) = accepted 2 false
+sufficesParts Unlisted = accepted 0 false
+
 -- The number, plus 256 times the line, plus 65,536 times the length, count or set, plus 2^40 for a verdict that holds.
 unfoldable pub packed : Parts → ℕ
 packed p = p .number + 256 * p .line + 65536 * p .amount + cond (p .holds) (2 ^ 40) 0
+
+-- The place of the witness in the list that holds it; where it is unlisted or refused, 2^64 - 1.
+unfoldable pub witnessPlace : SufficesAnswer → ℕ
+witnessPlace (SufficesRefused number line) = 2 ^ 64 - 1
+witnessPlace (CoreInside place) = place
+witnessPlace (CutApart place) = place
+witnessPlace Unlisted = 2 ^ 64 - 1
 
 -- A version as one number: major, minor, patch.
 abbrev pub versionNumber : ℕ → ℕ → ℕ → ℕ

@@ -2,8 +2,9 @@
 ghost use mathlib.Core.Path.{_≡_};
 ghost use Rattle.sorting.specs.declared.which.WhichList.the-variants.{Cores, Cuts};
 ghost use Rattle.sorting.specs.declared.kinds.Kind.the-variants.{Must, May, Irrelevant};
+ghost use Rattle.lookup.specs.Suffices.{sufficesAnswer};
 ghost use Rattle.calls.specs.Answers.{judgeAnswer, judgeBytes, listAnswer, listBytes, kindAnswer};
-ghost use Rattle.codremif.specs.Packing.{judgeParts, listParts, setParts, packed, versionNumber};
+ghost use Rattle.codremif.specs.Packing.{judgeParts, listParts, setParts, sufficesParts, witnessPlace, packed, versionNumber};
 use sorting::kinds::Kind;
 use sorting::which::WhichList;
 
@@ -52,10 +53,25 @@ pub extern "C" fn codremif_irr(text: &[u8]) -> u64
     crate::packing::pack_set(calls::kinds::give(text, Kind::Irrelevant))
 }
 
+// Whether a set suffices, by a list of cores and a list of cuts.
+#[no_mangle]
+pub extern "C" fn codremif_suffices(set: u32, cores: &[u8], cuts: &[u8]) -> u64
+    ensures { λ r. ⌜ r ≡ packed (sufficesParts (sufficesAnswer set (now (cores .entry)) (now (cuts .entry)))) ⌝ }
+{
+    crate::packing::pack_suffices(lookup::suffices::suffices(set, cores, cuts))
+}
+
+#[no_mangle]
+pub extern "C" fn codremif_witness(set: u32, cores: &[u8], cuts: &[u8]) -> u64
+    ensures { λ r. ⌜ r ≡ witnessPlace (sufficesAnswer set (now (cores .entry)) (now (cuts .entry))) ⌝ }
+{
+    crate::packing::place_of(lookup::suffices::suffices(set, cores, cuts))
+}
+
 // Which version of the part this is, as CODREMIF_VERSION of the header says it.
 #[no_mangle]
 pub extern "C" fn codremif_version() -> u64
-    ensures { λ r. ⌜ r ≡ versionNumber 1 1 0 ⌝ }
+    ensures { λ r. ⌜ r ≡ versionNumber 1 2 0 ⌝ }
 {
-    1001000
+    1002000
 }

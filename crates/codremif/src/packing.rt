@@ -1,9 +1,10 @@
 // An answer as the one 64-bit number that a C host gets.
 ghost use mathlib.Core.Path.{_≡_};
-ghost use Rattle.codremif.specs.Packing.{InRange, judgeParts, listParts, setParts, packed};
+ghost use Rattle.codremif.specs.Packing.{InRange, judgeParts, listParts, setParts, sufficesParts, witnessPlace, packed};
 use calls::answers::JudgeAnswer;
 use calls::answers::ListAnswer;
 use calls::answers::SetAnswer;
+use lookup::answer::SufficesAnswer;
 
 // The number, plus 256 times the line, plus 65,536 times the amount, plus 2^40 for a verdict that holds.
 fn pack(number: u8, line: usize, amount: usize, holds: bool) -> u64
@@ -42,5 +43,29 @@ pub(crate) fn pack_set(a: SetAnswer) -> u64
     match a {
         SetAnswer::Refused(number, line) => pack(number, line, 0, false),
         SetAnswer::Set(set) => pack(0, 0, set as usize, false),
+    }
+}
+
+pub(crate) fn pack_suffices(a: SufficesAnswer) -> u64
+    requires { ⌜ InRange (sufficesParts a) ⌝ }
+    ensures { λ r. ⌜ r ≡ packed (sufficesParts a) ⌝ }
+{
+    match a {
+        SufficesAnswer::Refused(number, line) => pack(number, line, 0, false),
+        SufficesAnswer::CoreInside(_) => pack(0, 0, 1, true),
+        SufficesAnswer::CutApart(_) => pack(0, 0, 2, false),
+        SufficesAnswer::Unlisted => pack(0, 0, 0, false),
+    }
+}
+
+// An exported function cannot return a reference: a C host gets the place of the witness and not the part.
+pub(crate) fn place_of(a: SufficesAnswer) -> u64
+    ensures { λ r. ⌜ r ≡ witnessPlace a ⌝ }
+{
+    match a {
+        SufficesAnswer::Refused(_, _) => 0xFFFF_FFFF_FFFF_FFFF,
+        SufficesAnswer::CoreInside(place) => place as u64,
+        SufficesAnswer::CutApart(place) => place as u64,
+        SufficesAnswer::Unlisted => 0xFFFF_FFFF_FFFF_FFFF,
     }
 }

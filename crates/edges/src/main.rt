@@ -1,10 +1,11 @@
 // The readings of edge texts: the number of the refusal and its line, 0 and 0 for a text that is accepted. What this program writes is
-// compared with the file `stdout` beside src/, which was written by hand from document 01.
+// compared with the file `stdout` beside src/, which was written by hand from documents 01 and 02.
 ghost use Prim.Native.Nat.{_≤_};
 use calls::answers::JudgeAnswer;
 use calls::answers::ListAnswer;
 use calls::answers::SetAnswer;
 use libc::STDOUT_FILENO;
+use lookup::answer::SufficesAnswer;
 use models::model::Outcome;
 use sorting::kinds::Kind;
 use sorting::which::WhichList;
@@ -307,6 +308,43 @@ fn show_kinds(name: &[u8], text: &[u8]) {
     io::write_all(STDOUT_FILENO, b"\n");
 }
 
+fn show_witness(part: &[u8]) {
+    if part.len() == 2 {
+        io::write_all(STDOUT_FILENO, b", witness");
+        show_byte(part[0]);
+        show_byte(part[1]);
+    } else if part.len() == 0 {
+        io::write_all(STDOUT_FILENO, b", no witness");
+    }
+    io::write_all(STDOUT_FILENO, b"\n");
+}
+
+// The two lists have one lifetime, since the witness is a part of either.
+fn show_looked_up<'a>(name: &[u8], set: u32, cores: &'a [u8], cuts: &'a [u8]) {
+    let answer = lookup::suffices::suffices(set, cores, cuts);
+    io::write_all(STDOUT_FILENO, name);
+    match answer {
+        SufficesAnswer::Refused(number, line) => {
+            io::write_all(STDOUT_FILENO, b": refused=");
+            io::print_decimal(STDOUT_FILENO, number as u64);
+            io::write_all(STDOUT_FILENO, b" line=");
+            io::print_decimal(STDOUT_FILENO, line as u64);
+        }
+        SufficesAnswer::CoreInside(place) => {
+            io::write_all(STDOUT_FILENO, b": core inside at ");
+            io::print_decimal(STDOUT_FILENO, place as u64);
+        }
+        SufficesAnswer::CutApart(place) => {
+            io::write_all(STDOUT_FILENO, b": cut apart at ");
+            io::print_decimal(STDOUT_FILENO, place as u64);
+        }
+        SufficesAnswer::Unlisted => {
+            io::write_all(STDOUT_FILENO, b": unlisted");
+        }
+    }
+    show_witness(lookup::suffices::witness(set, cores, cuts));
+}
+
 fn tremor_sets() {
     show_judged(
         b"set 0",
@@ -511,6 +549,74 @@ fn kinds_of_rules() {
     );
 }
 
+fn looked_up_in_tremor() {
+    show_looked_up(b"set 0", 0, b"\x04\x00\x03\x00", b"\x05\x00\x06\x00");
+    show_looked_up(b"set 1", 1, b"\x04\x00\x03\x00", b"\x05\x00\x06\x00");
+    show_looked_up(b"set 2", 2, b"\x04\x00\x03\x00", b"\x05\x00\x06\x00");
+    show_looked_up(b"set 3", 3, b"\x04\x00\x03\x00", b"\x05\x00\x06\x00");
+    show_looked_up(b"set 4", 4, b"\x04\x00\x03\x00", b"\x05\x00\x06\x00");
+    show_looked_up(b"set 7", 7, b"\x04\x00\x03\x00", b"\x05\x00\x06\x00");
+}
+
+fn sets_with_other_rules() {
+    show_looked_up(b"set 8", 8, b"\x04\x00\x03\x00", b"\x05\x00\x06\x00");
+    show_looked_up(
+        b"set 65,536",
+        65536,
+        b"\x04\x00\x03\x00",
+        b"\x05\x00\x06\x00",
+    );
+    show_looked_up(
+        b"set 65,539",
+        65539,
+        b"\x04\x00\x03\x00",
+        b"\x05\x00\x06\x00",
+    );
+    show_looked_up(
+        b"set 2^32 - 1",
+        4294967295,
+        b"\x04\x00\x03\x00",
+        b"\x05\x00\x06\x00",
+    );
+    show_looked_up(
+        b"rule 15, the high byte",
+        32768,
+        b"\x80\x00\x00\x80",
+        b"\x05\x00\x06\x00",
+    );
+}
+
+fn lists_at_the_edges() {
+    show_looked_up(b"both lists empty", 3, b"", b"");
+    show_looked_up(b"no core listed", 3, b"", b"\x00\x00");
+    show_looked_up(b"core 0 listed", 0, b"\x00\x00", b"");
+    show_looked_up(b"no cut listed", 3, b"\x04\x00", b"");
+    show_looked_up(b"neither fits", 1, b"\x04\x00", b"\x05\x00");
+    show_looked_up(b"a core and a cut fit", 3, b"\x03\x00", b"\x04\x00");
+    show_looked_up(
+        b"a set listed twice",
+        3,
+        b"\x04\x00\x03\x00\x03\x00",
+        b"\x08\x00",
+    );
+    show_looked_up(b"the larger set first", 7, b"\x07\x00\x04\x00", b"\x08\x00");
+}
+
+fn one_list_for_both(name: &[u8], set: u32, list: &[u8]) {
+    show_looked_up(name, set, list, list);
+}
+
+fn odd_lists() {
+    show_looked_up(b"odd core list", 4, b"\x04\x00\x03", b"\x05\x00\x06\x00");
+    show_looked_up(b"odd cut list", 4, b"\x04\x00\x03\x00", b"\x05\x00\x06");
+    show_looked_up(b"one byte each", 4, b"\x04", b"\x05");
+    show_looked_up(b"one byte and no byte", 4, b"\x04", b"");
+    show_looked_up(b"no byte and one byte", 4, b"", b"\x05");
+    one_list_for_both(b"one list for both, set 3", 3, b"\x04\x00\x03\x00");
+    one_list_for_both(b"one list for both, set 0", 0, b"\x04\x00\x03\x00");
+    one_list_for_both(b"one odd list for both", 0, b"\x04");
+}
+
 fn main() {
     whole_texts();
     vars_lines();
@@ -528,4 +634,8 @@ fn main() {
     core_lists();
     cut_lists();
     kinds_of_rules();
+    looked_up_in_tremor();
+    sets_with_other_rules();
+    lists_at_the_edges();
+    odd_lists();
 }

@@ -1,20 +1,14 @@
--- Parts of lists past their end, and the prefix of a class step by step. By induction on the lists.
-use Prim.Native.Nat.{ℕ, _+_, _-_, _<_, _≤_}
+-- The prefix of a class step by step. By induction on the lists.
+use Prim.Native.Nat.{ℕ, _+_, _<_, _≤_}
 use mathlib.Core.Path.{_≡_}
 use mathlib.Core.Bool.{true, false}
 use mathlib.Core.List.{List}
 use native.Mathlib.Omega.{arith}
 use native.Mathlib.Numerals.{add-one}
-use lib.ListN.{length, getD, take, drop, drop-of-length-le, length-drop}
-use lib.Seq.{take-all, drop-cons}
+use lib.ListN.{length, getD, drop, drop-of-length-le}
+use lib.Seq.{drop-cons}
 use Rattle.lines.specs.declared.classes.Class.{Class}
 use Rattle.lines.specs.Bytes.{belongs, prefix}
-
--- a part that ends past the end of the list is all that is left
-pub part-past : (l : List ℕ) (from to : ℕ) → length l < to → take (to - from) (drop from l) ≡ drop from l
-part-past l from to h = take-all (to - from) (drop from l) (omega (arith, length-drop from l))
-
--- ---- the prefix of a class
 
 pub prefix-step : (c : Class) (s : List ℕ) (i : ℕ) → i < length s → belongs c (getD s i 0) ≡ true → prefix c (drop i s) ≡ 1 + prefix c (drop (i + 1) s)
 unfolding prefix

@@ -1,4 +1,4 @@
--- The bytes of a text that is written out, classes of bytes, how far a text keeps to one, and whether two texts are the same.
+-- The bytes of a text that is written out, classes of bytes, and how far a text keeps to one.
 -- From document 01, "The model text". Assumes nothing: these are definitions.
 use Prim.Native.Nat.{ℕ, suc}
 use Prim.Native.Char.{code}
@@ -56,10 +56,3 @@ belongs (Allowed n capitals) b = allowed n capitals (tokenOf b)
 unfoldable pub prefix : Class → List ℕ → ℕ
 prefix c [] = 0
 prefix c (b ∷ s) = cond (belongs c b) (suc (prefix c s)) 0
-
--- the two texts are the same
-unfoldable pub same : List ℕ → List ℕ → Bool
-same [] [] = true
-same [] (b ∷ t) = false
-same (a ∷ s) [] = false
-same (a ∷ s) (b ∷ t) = eqb a b && same s t

@@ -17,7 +17,8 @@ use Rattle.lines.specs.declared.line.End.the-variants.{At, Missing}
 use Rattle.lines.specs.declared.names.RuleLine.{RuleLine}
 use Rattle.lines.specs.declared.names.RuleLine.the-variants.{RuleFault, RuleRead}
 use Rattle.lines.specs.declared.names.RuleParts.{RuleParts}
-use Rattle.lines.specs.Bytes.{bytes, prefix, same}
+use Rattle.lines.specs.Bytes.{bytes, prefix}
+use Rattle.slices.specs.Same.{same}
 use Rattle.lines.specs.Decimal.{decimal}
 
 -- the number that refuses a line, 0 if none does

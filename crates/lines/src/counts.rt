@@ -52,7 +52,7 @@ pub fn count_line(key: &[u8], most: usize, s: &[u8]) -> Line
     let End::At(end) = crate::line::end_of(key, s) else {
         return Line::Fault(1);
     };
-    let n = count_in(most, crate::parts::part(s, key.len(), end));
+    let n = count_in(most, slices::parts::part(s, key.len(), end));
     if n == 0 {
         return Line::Fault(2);
     }

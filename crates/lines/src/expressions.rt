@@ -44,7 +44,7 @@ pub fn state_line(key: &[u8], vars: usize, s: &[u8]) -> Line
         return Line::Fault(1);
     };
     let from = key.len();
-    let number = fault_in(vars, false, crate::parts::part(s, from, end));
+    let number = fault_in(vars, false, slices::parts::part(s, from, end));
     if number != 0 {
         return Line::Fault(number);
     }

@@ -4,4 +4,3 @@ pub mod counts;
 pub mod expressions;
 pub mod line;
 pub mod names;
-pub mod parts;

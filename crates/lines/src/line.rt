@@ -37,8 +37,8 @@ fn line_length(s: &[u8]) -> usize
 pub(crate) fn end_of(key: &[u8], s: &[u8]) -> End
     ensures { λ r. ⌜ r ≡ endOf (now (key .entry)) (now (s .entry)) ⌝ }
 {
-    let start = crate::parts::front(s, key.len());
-    if !crate::parts::same_bytes(start, key) {
+    let start = slices::parts::front(s, key.len());
+    if !slices::parts::same_bytes(start, key) {
         return End::Missing;
     }
     let end = line_length(s);

@@ -40,7 +40,7 @@ pub fn name_of(text: &[u8], names: [usize; 16], steps: [usize; 16], i: usize) ->
 {
     let from = names[i];
     let to = one_less(steps[i]);
-    crate::parts::part(text, from, to)
+    slices::parts::part(text, from, to)
 }
 
 // Whether one of the first `count` rules has this name.
@@ -52,7 +52,7 @@ fn is_taken(text: &[u8], names: [usize; 16], steps: [usize; 16], count: usize, n
     let mut j = 0;
     while j < count {
         let earlier = name_of(text, names, steps, j);
-        found = found | crate::parts::same_bytes(earlier, name);
+        found = found | slices::parts::same_bytes(earlier, name);
         j += 1;
     }
     found
@@ -71,19 +71,19 @@ pub fn rule_line(
     ensures { λ r.
         ⌜ r ≡ ruleLine vars (isTaken (now (text .entry)) names steps count) at (drop at (now (text .entry))) ⌝ }
 {
-    let s = crate::parts::rest(text, at);
+    let s = slices::parts::rest(text, at);
     let End::At(end) = crate::line::end_of(b"rule=", s) else {
         return RuleLine::RuleFault(1);
     };
-    let v = crate::parts::part(s, 5, end);
+    let v = slices::parts::part(s, 5, end);
     let k = crate::classes::prefix_of(Class::InName, v);
-    if !is_named(k, crate::parts::byte_at(v, k)) {
+    if !is_named(k, slices::parts::byte_at(v, k)) {
         return RuleLine::RuleFault(3);
     }
-    if is_taken(text, names, steps, count, crate::parts::front(v, k)) {
+    if is_taken(text, names, steps, count, slices::parts::front(v, k)) {
         return RuleLine::RuleFault(4);
     }
-    let number = crate::expressions::fault_in(vars, true, crate::parts::rest(v, k + 1));
+    let number = crate::expressions::fault_in(vars, true, slices::parts::rest(v, k + 1));
     if number != 0 {
         return RuleLine::RuleFault(number);
     }

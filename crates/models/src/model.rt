@@ -160,22 +160,22 @@ pub fn read_model(text: &[u8]) -> Reading
     ensures { λ r. ⌜ r ≡ readModel (now (text .entry)) ⌝ }
 {
     let p1 = LineStart { at: 0, line: 1 };
-    let a = lines::counts::count_line(b"vars=", 7, lines::parts::rest(text, p1.at));
+    let a = lines::counts::count_line(b"vars=", 7, slices::parts::rest(text, p1.at));
     let Line::Read(vars, bytes1) = a else {
         return refuse(lines::line::fault_number(a), p1.line);
     };
     let p2 = behind(text, p1, bytes1);
-    let b = lines::counts::count_line(b"rules=", 16, lines::parts::rest(text, p2.at));
+    let b = lines::counts::count_line(b"rules=", 16, slices::parts::rest(text, p2.at));
     let Line::Read(rules, bytes2) = b else {
         return refuse(lines::line::fault_number(b), p2.line);
     };
     let p3 = behind(text, p2, bytes2);
-    let c = lines::expressions::state_line(b"init=", vars, lines::parts::rest(text, p3.at));
+    let c = lines::expressions::state_line(b"init=", vars, slices::parts::rest(text, p3.at));
     let Line::Read(init, bytes3) = c else {
         return refuse(lines::line::fault_number(c), p3.line);
     };
     let p4 = behind(text, p3, bytes3);
-    let d = lines::expressions::state_line(b"prop=", vars, lines::parts::rest(text, p4.at));
+    let d = lines::expressions::state_line(b"prop=", vars, slices::parts::rest(text, p4.at));
     let Line::Read(prop, bytes4) = d else {
         return refuse(lines::line::fault_number(d), p4.line);
     };

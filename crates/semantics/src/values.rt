@@ -7,7 +7,7 @@ use exprs::words::Worded;
 pub(crate) fn word_of(text: &[u8], place: usize, s: usize, block: usize) -> u64
     ensures { λ r. ⌜ r ≡ wordAt (now (text .entry)) place s block ⌝ }
 {
-    let w = exprs::words::words(lines::parts::rest(text, place), s, block);
+    let w = exprs::words::words(slices::parts::rest(text, place), s, block);
     match w {
         Worded::Word(x, _) => x,
         Worded::NoWord => 0,

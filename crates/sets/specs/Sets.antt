@@ -1,4 +1,4 @@
--- Rule sets as numbers: parts, proper parts, sharing a rule, and the order of the lists.
+-- Rule sets as numbers: parts, proper parts, sharing a rule and being apart, and the order of the lists.
 -- Assumes nothing: these are definitions.
 use Prim.Native.Nat.{ℕ, _-_, _^_, _<_}
 use mathlib.Core.Path.{_≡_}
@@ -33,6 +33,10 @@ pub data Before (S T : ℕ) : Type 0 where
 -- The test for a part: what S and T have in common is S.
 unfoldable pub part : ℕ → ℕ → Bool
 part S T = eqb (bitAnd S T) S
+
+-- The test for sets apart, which share no rule: they have nothing in common.
+unfoldable pub apart : ℕ → ℕ → Bool
+apart S T = eqb (bitAnd S T) 0
 
 -- S without rule i, and S with rule i, whether it is in S or not.
 unfoldable pub without : ℕ → ℕ → ℕ

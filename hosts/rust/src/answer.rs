@@ -16,13 +16,14 @@ pub enum Reason {
     BytesFollow,
     NoSuchSet,
     TooFewBytes,
+    OddList,
     /// A number that this wrapper does not know: a later library may have more of them. The call is refused all the same.
     Other(u8),
 }
 
 impl Reason {
     /// The reasons that have a name, in the order of their numbers, which begin with 1.
-    pub const ALL: [Reason; 11] = [
+    pub const ALL: [Reason; 12] = [
         Reason::LineDue,
         Reason::Count,
         Reason::Name,
@@ -34,6 +35,7 @@ impl Reason {
         Reason::BytesFollow,
         Reason::NoSuchSet,
         Reason::TooFewBytes,
+        Reason::OddList,
     ];
 
     pub fn number(self) -> u8 {
@@ -64,6 +66,7 @@ impl Reason {
             Reason::BytesFollow => "Bytes follow the last rule line (line R + 5).",
             Reason::NoSuchSet => "The judged set is 2^R or more (line 0).",
             Reason::TooFewBytes => "The lent bytes are fewer than this answer's trace or list needs (line 0).",
+            Reason::OddList => "A list has an odd count of bytes (line 0).",
             Reason::Other(_) => "",
         }
     }
@@ -99,4 +102,20 @@ pub enum Verdict {
     Broken {
         length: usize,
     },
+}
+
+/// What is said of a set that is looked up in a core list and a cut list.
+#[derive(Clone, Copy, Debug, PartialEq, Eq)]
+pub enum Said {
+    /// No listed core is inside the set, and no listed cut is apart from it.
+    Unlisted,
+    /// A listed core is inside the set: each of its rules is in the set.
+    CoreInside,
+    /// No listed core is inside the set, and a listed cut is apart from it: none of its rules is in the set.
+    CutApart,
+}
+
+impl Said {
+    /// All of them in the order of their numbers, which begin with 0.
+    pub const ALL: [Said; 3] = [Said::Unlisted, Said::CoreInside, Said::CutApart];
 }

@@ -1,6 +1,6 @@
 //! The calls of libcodremif.a.
 
-use crate::answer::{Reason, Refused, Verdict};
+use crate::answer::{Reason, Refused, Said, Verdict};
 
 /// The declarations as a C host has them.
 mod declared {
@@ -17,6 +17,20 @@ mod declared {
         pub fn codremif_must(text: *const u8, text_len: usize) -> u64;
         pub fn codremif_may(text: *const u8, text_len: usize) -> u64;
         pub fn codremif_irr(text: *const u8, text_len: usize) -> u64;
+        pub fn codremif_suffices(
+            set: u32,
+            cores: *const u8,
+            cores_len: usize,
+            cuts: *const u8,
+            cuts_len: usize,
+        ) -> u64;
+        pub fn codremif_witness(
+            set: u32,
+            cores: *const u8,
+            cores_len: usize,
+            cuts: *const u8,
+            cuts_len: usize,
+        ) -> u64;
         pub fn codremif_version() -> u64;
     }
 }
@@ -81,6 +95,38 @@ pub fn irrelevant(text: &[u8]) -> Result<u16, Refused> {
     set_alone(unsafe { declared::codremif_irr(text.as_ptr(), text.len()) })
 }
 
+/// Looks `set` up in two lists, two bytes for each set: says whether a listed core is inside it or else a listed cut is
+/// apart from it. No text is read.
+pub fn suffices(set: u32, cores: &[u8], cuts: &[u8]) -> Result<Said, Refused> {
+    // SAFETY: both slices are memory of the length given, and it is only read.
+    said(unsafe { declared::codremif_suffices(set, cores.as_ptr(), cores.len(), cuts.as_ptr(), cuts.len()) })
+}
+
+/// Gives the byte place of the witness in the list that holds it; none where `set` is unlisted, and where `suffices` is
+/// refused.
+pub fn witness_place(set: u32, cores: &[u8], cuts: &[u8]) -> Option<usize> {
+    // SAFETY: as in `suffices`.
+    let place =
+        unsafe { declared::codremif_witness(set, cores.as_ptr(), cores.len(), cuts.as_ptr(), cuts.len()) };
+    (place != u64::MAX).then(|| usize::try_from(place).expect("a place in memory"))
+}
+
+/// Gives the witness: the first listed core inside `set`, or else the first listed cut apart from it, as two bytes of the
+/// list that holds it and no copy. No bytes where `set` is unlisted, and where `suffices` is refused. A byte place does
+/// not tell which list it is of, so both calls are made.
+pub fn witness<'lists>(set: u32, cores: &'lists [u8], cuts: &'lists [u8]) -> &'lists [u8] {
+    let list = match suffices(set, cores, cuts) {
+        Ok(Said::CoreInside) => Some(cores),
+        Ok(Said::CutApart) => Some(cuts),
+        Ok(Said::Unlisted) | Err(_) => None,
+    };
+    match (list, witness_place(set, cores, cuts)) {
+        (Some(list), Some(place)) => &list[place..place + 2],
+        (None, None) => &[],
+        (_, place) => panic!("a witness at {place:?} of a list of {:?} bytes", list.map(<[u8]>::len)),
+    }
+}
+
 /// Gives the library's version: major * 1,000,000 + minor * 1,000 + patch.
 pub fn version() -> u64 {
     // SAFETY: it is handed nothing.
@@ -112,6 +158,22 @@ fn unpack(packed: u64) -> Result<Accepted, Refused> {
     Err(Refused::new(Reason::from_number(number), line))
 }
 
+/// For the call that looks a set up.
+fn said(packed: u64) -> Result<Said, Refused> {
+    let accepted = unpack(packed)?;
+    Ok(said_in(&accepted).unwrap_or_else(|| panic!("no answer of docs/FORMAT.md: {packed:#x}")))
+}
+
+/// 1 with 2^40 is a core inside, 2 a cut apart, 0 unlisted, and there is nothing else.
+fn said_in(accepted: &Accepted) -> Option<Said> {
+    match (accepted.amount, accepted.holds) {
+        (0, false) => Some(Said::Unlisted),
+        (1, true) => Some(Said::CoreInside),
+        (2, false) => Some(Said::CutApart),
+        _ => None,
+    }
+}
+
 /// For the calls that give no verdict.
 fn amount_alone(packed: u64) -> Result<usize, Refused> {
     let accepted = unpack(packed)?;
@@ -134,9 +196,20 @@ mod tests {
         for number in 1..=255_u8 {
             let refused = unpack(u64::from(number) + 256 * 7).expect_err("a refusal");
             assert_eq!((refused.reason.number(), refused.line), (number, 7));
-            assert_eq!(matches!(refused.reason, Reason::Other(_)), number > 11);
+            assert_eq!(matches!(refused.reason, Reason::Other(_)), number > 12);
             assert!(refused.to_string().starts_with(&format!("refused by number {number}, line 7: ")));
         }
         assert_eq!(unpack(5 * 65_536), Ok(Accepted { amount: 5, holds: false }));
+    }
+
+    #[test]
+    fn what_is_said_of_a_set() {
+        assert_eq!(said(0), Ok(Said::Unlisted));
+        assert_eq!(said(65_536 + (1 << 40)), Ok(Said::CoreInside));
+        assert_eq!(said(131_072), Ok(Said::CutApart));
+        assert_eq!(said(12), Err(Refused::new(Reason::OddList, 0)));
+        for (amount, holds) in [(0, true), (1, false), (2, true), (3, false), (3, true)] {
+            assert_eq!(said_in(&Accepted { amount, holds }), None);
+        }
     }
 }

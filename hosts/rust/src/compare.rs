@@ -3,10 +3,12 @@
 use std::collections::BTreeMap;
 use std::fmt::Debug;
 
-use crate::answer::{Reason, Refused, Verdict};
+use crate::answer::{Reason, Refused, Said, Verdict};
 use crate::calls;
+use crate::handed::Handed;
 use crate::lent::{Fill, Lent};
 use crate::plain::answers::Answers;
+use crate::plain::lookup;
 
 /// How often the library was asked, and how often it gave each number (number 0: accepted).
 #[derive(Clone, Debug, Default)]
@@ -102,6 +104,28 @@ impl Tally {
         self.count(&answered);
     }
 
+    /// A set that is looked up: both sides must say the same of it and give the same two bytes of the same list as the
+    /// witness, and no byte of the lists or their guards may change.
+    pub fn look_up(&mut self, set: u32, lists: &Handed) -> Result<Said, Refused> {
+        let (cores, cuts) = (lists.cores(), lists.cuts());
+        let answered = calls::suffices(set, cores, cuts);
+        let witness = calls::witness(set, cores, cuts);
+        let about = || format!("set {set}; cores {}; cuts {}", show_list(cores), show_list(cuts));
+        let expected = lookup::suffices(set, cores, cuts);
+        assert_eq!(answered, expected, "library left, plain search right; {}", about());
+        let list = match answered {
+            Ok(Said::CoreInside) => cores,
+            Ok(Said::CutApart) => cuts,
+            Ok(Said::Unlisted) | Err(_) => &[],
+        };
+        let place = place_in(list, lookup::witness(set, cores, cuts));
+        assert_eq!(place_in(list, witness), place, "library left, plain search right; {}", about());
+        assert_eq!(calls::witness_place(set, cores, cuts), place, "the byte place; {}", about());
+        assert!(lists.is_untouched(), "a byte has changed; {}", about());
+        self.count(&answered);
+        answered
+    }
+
     /// A text that the plain reader refuses: all calls must refuse it alike. Judge is asked with set 0, with a set too
     /// large for any model and with no byte lent, because the text comes before 10 and 11.
     pub fn refused_text(&mut self, text: &[u8], expected: Refused, fill: Fill) {
@@ -117,6 +141,23 @@ impl Tally {
         self.ask_set("MAY", text, calls::may, Err(expected));
         self.ask_set("irrelevant", text, calls::irrelevant, Err(expected));
     }
+}
+
+/// Where a witness stands in the list that holds it; none if it has no bytes. Panics where it is no part of the list, or a
+/// copy of one.
+pub fn place_in(list: &[u8], witness: &[u8]) -> Option<usize> {
+    if witness.is_empty() {
+        return None;
+    }
+    let place = (witness.as_ptr() as usize).checked_sub(list.as_ptr() as usize);
+    let inside = place.filter(|place| place + 2 <= list.len() && witness.len() == 2);
+    assert!(inside.is_some(), "the witness {witness:?} is no part of the list {}", show_list(list));
+    inside
+}
+
+/// The bytes of a list, no more than some of the first.
+fn show_list(list: &[u8]) -> String {
+    format!("{} bytes, {:?}", list.len(), &list[..list.len().min(100)])
 }
 
 /// A text as it can be pasted into a test.

@@ -11,7 +11,7 @@ pub enum Fill {
 impl Fill {
     pub const ALL: [Fill; 3] = [Fill::Zeros, Fill::Ones, Fill::Varying];
 
-    fn byte(self, place: usize) -> u8 {
+    pub(crate) fn byte(self, place: usize) -> u8 {
         match self {
             Fill::Zeros => 0x00,
             Fill::Ones => 0xFF,
@@ -22,7 +22,7 @@ impl Fill {
 }
 
 /// How many guard bytes stand before the lent bytes, and how many after.
-const GUARD: usize = 48;
+pub(crate) const GUARD: usize = 48;
 
 /// Lent bytes between their guards. The guards go on with the same filling, for the same reason that there are three.
 #[derive(Debug, PartialEq, Eq)]

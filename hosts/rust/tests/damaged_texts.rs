@@ -44,7 +44,8 @@ fn randomly_damaged_texts() {
         }
     }
     println!("damaged texts: {seen:?}");
-    for reason in Reason::ALL {
+    // Number 12 is not tried by a call that reads a text.
+    for reason in Reason::ALL.into_iter().filter(|reason| *reason != Reason::OddList) {
         let times = seen.by_number[usize::from(reason.number())];
         assert!(times >= 100, "number {} came up {times} times only", reason.number());
     }

@@ -2,10 +2,12 @@
 
 #![deny(warnings)]
 
-use codremif_host::answer::{Reason, Refused, Verdict};
-use codremif_host::compare::{show, Tally};
+use codremif_host::answer::{Reason, Refused, Said, Verdict};
+use codremif_host::compare::{place_in, show, Tally};
+use codremif_host::handed::Handed;
 use codremif_host::lent::Fill;
 use codremif_host::plain::answers::Answers;
+use codremif_host::plain::lookup;
 use codremif_host::plain::trace::trace;
 use codremif_host::{calls, plain};
 
@@ -63,6 +65,51 @@ fn expect_refused(text: &str, reason: Reason, line: u8) {
 fn expect_accepted(text: &str) {
     let plain = Answers::of(text.as_bytes()).expect("an accepted model");
     Tally::default().kinds(text.as_bytes(), &plain);
+}
+
+/// What is said of a set, and the byte place of its witness in the list that holds it.
+type LookedUp = (Said, Option<usize>);
+
+const UNLISTED: LookedUp = (Said::Unlisted, None);
+
+fn core_at(byte_place: usize) -> LookedUp {
+    (Said::CoreInside, Some(byte_place))
+}
+
+fn cut_at(byte_place: usize) -> LookedUp {
+    (Said::CutApart, Some(byte_place))
+}
+
+fn expect_looked_up(cores: &[u8], cuts: &[u8], expected: &[(u32, LookedUp)]) {
+    for (set, (said, place)) in expected {
+        let about = format!("set {set}, cores {cores:?}, cuts {cuts:?}");
+        assert_eq!(lookup::suffices(*set, cores, cuts), Ok(*said), "plain search; {about}");
+        let list = match said {
+            Said::CoreInside => cores,
+            Said::CutApart => cuts,
+            Said::Unlisted => &[],
+        };
+        assert_eq!(place_in(list, lookup::witness(*set, cores, cuts)), *place, "plain search; {about}");
+        assert_eq!(place_in(list, calls::witness(*set, cores, cuts)), *place, "library; {about}");
+        assert_eq!(calls::witness_place(*set, cores, cuts), *place, "library; {about}");
+        for fill in Fill::ALL {
+            let lists = Handed::separate(cores, cuts, fill);
+            assert_eq!(Tally::default().look_up(*set, &lists), Ok(*said), "library; {about}");
+        }
+    }
+}
+
+/// Refused by 12, with no witness, whatever set is looked up.
+fn expect_odd(cores: &[u8], cuts: &[u8]) {
+    let odd = Err(Refused::new(Reason::OddList, 0));
+    for set in [0, 3, 4, 7, 8, 65_539, u32::MAX] {
+        assert_eq!(lookup::suffices(set, cores, cuts), odd, "plain search, set {set}");
+        for fill in Fill::ALL {
+            assert_eq!(Tally::default().look_up(set, &Handed::separate(cores, cuts, fill)), odd, "set {set}");
+        }
+        assert!(calls::witness(set, cores, cuts).is_empty(), "set {set}");
+        assert_eq!(calls::witness_place(set, cores, cuts), None, "set {set}");
+    }
 }
 
 /// A text with one bit and one rule.
@@ -176,4 +223,132 @@ fn expressions_and_names() {
     expect_refused(&tremor_with(4, "rule=ninebytes:1"), Reason::Name, 5);
     expect_accepted(&tremor_with(4, "rule=eightbyt:1"));
     expect_refused(&(TREMOR.to_string() + "\n"), Reason::BytesFollow, 8);
+}
+
+/// Tremor's lists as bytes: the cores 4 and 3, the cuts 5 and 6.
+const TREMOR_CORES: &[u8] = &[4, 0, 3, 0];
+const TREMOR_CUTS: &[u8] = &[5, 0, 6, 0];
+
+#[test]
+fn tremor_looked_up() {
+    let mut lists = [[0; 4]; 2];
+    assert_eq!(calls::cores(TREMOR.as_bytes(), &mut lists[0]), Ok(2));
+    assert_eq!(calls::cuts(TREMOR.as_bytes(), &mut lists[1]), Ok(2));
+    assert_eq!((&lists[0][..], &lists[1][..]), (TREMOR_CORES, TREMOR_CUTS));
+    let each_set =
+        [cut_at(0), cut_at(2), cut_at(0), core_at(2), core_at(0), core_at(0), core_at(0), core_at(0)];
+    let expected: Vec<(u32, LookedUp)> = (0..).zip(each_set).collect();
+    expect_looked_up(TREMOR_CORES, TREMOR_CUTS, &expected);
+    for (set, (said, _)) in expected {
+        let verdict = calls::judge(TREMOR.as_bytes(), set, &mut [0; 8]).expect("a set of the model");
+        assert_eq!(verdict == Verdict::Holds, said == Said::CoreInside, "set {set}");
+    }
+}
+
+#[test]
+fn rules_that_tremor_lacks() {
+    expect_looked_up(
+        TREMOR_CORES,
+        TREMOR_CUTS,
+        &[
+            (8, cut_at(0)),
+            (9, cut_at(2)),
+            (11, core_at(2)),
+            (65_536, cut_at(0)),
+            (65_536 + 3, core_at(2)),
+            (65_536 + 1, cut_at(2)),
+            (1 << 31, cut_at(0)),
+            (u32::MAX - 4, core_at(2)),
+            (u32::MAX - 7, cut_at(0)),
+            (u32::MAX, core_at(0)),
+        ],
+    );
+}
+
+#[test]
+fn tremor_with_its_lists_exchanged_or_in_another_order() {
+    let exchanged =
+        [cut_at(0), cut_at(0), cut_at(0), cut_at(0), cut_at(2), core_at(0), core_at(2), core_at(0)];
+    expect_looked_up(TREMOR_CUTS, TREMOR_CORES, &(0..).zip(exchanged).collect::<Vec<_>>());
+    let twice = &[3, 0, 4, 0, 4, 0, 3, 0];
+    expect_looked_up(
+        twice,
+        &[6, 0, 5, 0],
+        &[(7, core_at(0)), (4, core_at(2)), (0, cut_at(0)), (2, cut_at(2))],
+    );
+    // Both are the cores: a set is said to be apart from a core that it has no rule of.
+    expect_looked_up(
+        TREMOR_CORES,
+        TREMOR_CORES,
+        &[(0, cut_at(0)), (1, cut_at(0)), (4, core_at(0)), (3, core_at(2))],
+    );
+}
+
+#[test]
+fn unlisted_sets() {
+    expect_looked_up(&[4, 0], TREMOR_CUTS, &[(3, UNLISTED), (7, core_at(0)), (1, cut_at(2))]);
+    expect_looked_up(&[3, 0], TREMOR_CUTS, &[(4, UNLISTED), (5, UNLISTED), (3, core_at(0))]);
+    expect_looked_up(TREMOR_CORES, &[5, 0], &[(1, UNLISTED), (2, cut_at(0)), (0, cut_at(0))]);
+    expect_looked_up(TREMOR_CORES, &[], &[(0, UNLISTED), (1, UNLISTED), (3, core_at(2))]);
+    expect_looked_up(&[], TREMOR_CUTS, &[(7, UNLISTED), (1, cut_at(2))]);
+    expect_looked_up(&[], &[], &[(0, UNLISTED), (7, UNLISTED), (u32::MAX, UNLISTED)]);
+}
+
+/// Set 0 as a listed core is inside every set, and as a listed cut apart from every set; every rule in one set is neither.
+#[test]
+fn set_0_and_the_full_set_in_a_list() {
+    for set in [0, 1, 65_535, 65_536, u32::MAX] {
+        expect_looked_up(&[0, 0], &[0, 0], &[(set, core_at(0))]);
+        expect_looked_up(&[], &[0, 0], &[(set, cut_at(0))]);
+    }
+    expect_looked_up(
+        &[255, 255, 0, 0],
+        &[],
+        &[(65_534, core_at(2)), (65_535, core_at(0)), (u32::MAX, core_at(0))],
+    );
+    expect_looked_up(&[], &[255, 255, 0, 0], &[(1, cut_at(2)), (0, cut_at(0)), (65_536, cut_at(0))]);
+    // The low byte comes first: this is rule 8 alone.
+    expect_looked_up(
+        &[0, 1],
+        &[0, 1],
+        &[(256, core_at(0)), (1, cut_at(0)), (255, cut_at(0)), (511, core_at(0))],
+    );
+}
+
+/// Number 12 for each list and for both, whatever is in them.
+#[test]
+fn lists_of_odd_length() {
+    for length in [1, 3] {
+        expect_odd(&TREMOR_CORES[..length], TREMOR_CUTS);
+        expect_odd(TREMOR_CORES, &TREMOR_CUTS[..length]);
+        expect_odd(&TREMOR_CORES[..length], &TREMOR_CUTS[..length]);
+        expect_odd(&TREMOR_CORES[..length], &[]);
+        expect_odd(&[], &TREMOR_CUTS[..length]);
+        expect_odd(&[0; 3][..length], &[0; 4]);
+        expect_odd(&[0; 4], &[0; 3][..length]);
+    }
+}
+
+/// The lists are only read, so that one memory may serve as both.
+#[test]
+fn lists_in_the_same_memory() {
+    let bytes = [6, 0, 3, 0, 5, 0];
+    for (cores, cuts, set, said) in [
+        (0..6, 0..6, 7, core_at(0)),
+        (0..6, 0..6, 2, cut_at(4)),
+        (0..4, 2..6, 1, UNLISTED),
+        (0..4, 2..6, 3, core_at(2)),
+        (0..4, 2..6, 2, cut_at(2)),
+        (0..4, 4..6, 2, cut_at(0)),
+        // One byte later the bytes are the sets 768 and 1,280.
+        (1..5, 0..6, 0x300, core_at(0)),
+        (1..5, 0..6, 0x500, core_at(2)),
+        (0..6, 1..5, 0x200, cut_at(2)),
+    ] {
+        expect_looked_up(&bytes[cores.clone()], &bytes[cuts.clone()], &[(set, said)]);
+        let lists = Handed::within(&bytes, cores, cuts, Fill::Varying);
+        assert_eq!(Tally::default().look_up(set, &lists), Ok(said.0), "set {set}");
+    }
+    let odd = Handed::within(&bytes, 0..6, 1..4, Fill::Zeros);
+    assert_eq!(Tally::default().look_up(7, &odd), Err(Refused::new(Reason::OddList, 0)));
 }

@@ -1,11 +1,12 @@
-//! The wrapper against include/codremif.h: the refusals have the same numbers, names and words, and the library is of the
-//! header's version.
+//! The wrapper against include/codremif.h: the refusals have the same numbers, names and words, what is said of a set has the
+//! same numbers and names, and the library is of the header's version.
 
 #![deny(warnings)]
 
+use std::fmt::Debug;
 use std::path::Path;
 
-use codremif_host::answer::Reason;
+use codremif_host::answer::{Reason, Said};
 
 fn header() -> String {
     let path = Path::new(env!("CARGO_MANIFEST_DIR")).join("../../include/codremif.h");
@@ -13,9 +14,9 @@ fn header() -> String {
 }
 
 /// `LINE_DUE` for `LineDue`.
-fn c_name(reason: Reason) -> String {
+fn c_name(rust_name: impl Debug) -> String {
     let mut name = String::new();
-    for letter in format!("{reason:?}").chars() {
+    for letter in format!("{rust_name:?}").chars() {
         if letter.is_uppercase() && !name.is_empty() {
             name.push('_');
         }
@@ -24,9 +25,9 @@ fn c_name(reason: Reason) -> String {
     name
 }
 
-/// The names and numbers of the enum.
-fn numbers(header: &str) -> Vec<(String, u8)> {
-    let enumeration = between(header, "enum codremif_refusal {", "};");
+/// The names and numbers of an enum.
+fn numbers(header: &str, enumeration: &str) -> Vec<(String, u8)> {
+    let enumeration = between(header, &format!("enum {enumeration} {{"), "};");
     let lines = enumeration.lines().filter_map(|line| line.trim().strip_prefix("CODREMIF_"));
     lines
         .map(|line| {
@@ -52,10 +53,16 @@ fn refusals() {
     let header = header();
     let mut expected = vec![("ACCEPTED".to_string(), 0)];
     expected.extend(Reason::ALL.map(|reason| (c_name(reason), reason.number())));
-    assert_eq!(numbers(&header), expected, "header left, wrapper right");
+    assert_eq!(numbers(&header, "codremif_refusal"), expected, "header left, wrapper right");
     for reason in Reason::ALL {
         assert_eq!(words(&header, &c_name(reason)), reason.words(), "header left, wrapper right");
     }
+}
+
+#[test]
+fn what_is_said_of_a_set() {
+    let expected: Vec<_> = (0..).zip(Said::ALL).map(|(number, said)| (c_name(said), number)).collect();
+    assert_eq!(numbers(&header(), "codremif_lookup"), expected, "header left, wrapper right");
 }
 
 #[test]

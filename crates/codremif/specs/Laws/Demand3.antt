@@ -70,7 +70,7 @@ module _ (text : List ℕ) (model : textOutcome text ≡ Accepted) where
   unfolding listIn listed kindIn ofKind
   the-lists = demand3 (rulesIn text) (judgeIn text) (monotone-in text)
 
-  list-given : (which : WhichList) (lent : List ℕ) → GivesList inRattle (listIn which text) lent (listAnswer which text lent) (listBytes which text lent)
+  pub list-given : (which : WhichList) (lent : List ℕ) → GivesList inRattle (listIn which text) lent (listAnswer which text lent) (listBytes which text lent)
   unfolding inRattle listAnswer listBytes after
   list-given which lent =
       let n = list-numbers which text lent in
@@ -81,7 +81,7 @@ module _ (text : List ℕ) (model : textOutcome text ≡ Accepted) where
         kept = λ h. given-refused _ _ (n .byLength model h);
       }
 
-  list-packed : (which : WhichList) (lent : List ℕ) → GivesList forHosts (listIn which text) lent (packed (listParts (listAnswer which text lent))) (listBytes which text lent)
+  pub list-packed : (which : WhichList) (lent : List ℕ) → GivesList forHosts (listIn which text) lent (packed (listParts (listAnswer which text lent))) (listBytes which text lent)
   unfolding inRattle forHosts packed listParts accepted refused
   list-packed which lent =
       let g = list-given which lent in

@@ -1,18 +1,17 @@
--- Laws of classes of bytes and of equal texts: what a prefix ends at, which lists are in a class throughout, and that `same` tells equal lists.
+-- Laws of classes of bytes: what a prefix ends at, and which lists are in a class throughout.
 -- From the definitions of `Bytes` and `all` of `Lines`, by induction on the lists.
 use Prim.Native.Nat.{ℕ, suc, _+_, _<_}
 use mathlib.Core.Path.{_≡_, refl, sym, ap, ap₂, _∙_}
 use mathlib.Core.Bool.{Bool, true, false, cond, not, _&&_, and-assoc, and-eq-true-iff, false≢true}
-use mathlib.Mathlib.Data.Bool.Basic.{eq-false-of-not-eq-true}
 use mathlib.Core.List.{List, [], _∷_, _++_}
 use native.Mathlib.Omega.{arith}
-use borrow.Author.Tests.{eq-eqb, ne-eqb, eqb-true}
+use borrow.Author.Tests.{ne-eqb}
 use lib.Dec.{eqb, eqb·suc-suc, eqb·zero-suc}
 use lib.ListN.{length, getD, take}
 use Rattle.sets.specs.Laws.Choice.{by-test}
 use Rattle.lines.specs.declared.classes.Class.{Class}
 use Rattle.lines.specs.declared.classes.Class.the-variants.{InLine}
-use Rattle.lines.specs.Bytes.{belongs, prefix, same}
+use Rattle.lines.specs.Bytes.{belongs, prefix}
 use Rattle.lines.specs.Lines.{all}
 
 -- ---- lists that are in a class throughout
@@ -73,23 +72,3 @@ unfolding prefix
 prefix-ends c [] = λ h. absurd (omega arith)
 prefix-ends c (b ∷ s) =
     by-test (λ k. k < suc (length s) → belongs c (getD (b ∷ s) k 0) ≡ false) (belongs c b) (λ p h. prefix-ends c s (omega arith)) (λ p _. p)
-
--- ---- equal lists
-
-same-self : (l : List ℕ) → same l l ≡ true
-unfolding same
-same-self [] = refl
-same-self (x ∷ l) = ap₂ _&&_ (eq-eqb x x refl) (same-self l)
-
-pub same-true : (a b : List ℕ) → a ≡ b → same a b ≡ true
-same-true a b e = ap (same a) (sym e) ∙ same-self a
-
-pub same-is : (a b : List ℕ) → same a b ≡ true → a ≡ b
-unfolding same
-same-is [] [] e = refl
-same-is [] (y ∷ b) e = absurd (false≢true e)
-same-is (x ∷ a) [] e = absurd (false≢true e)
-same-is (x ∷ a) (y ∷ b) e = let h = and-eq-true-iff (eqb x y) (same a b) .0 e in ap₂ _∷_ (eqb-true x y (h .0)) (same-is a b (h .1))
-
-pub same-false : (a b : List ℕ) → (a ≡ b → ⊥) → same a b ≡ false
-same-false a b n = eq-false-of-not-eq-true (λ q. n (same-is a b q))

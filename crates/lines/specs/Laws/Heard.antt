@@ -15,7 +15,8 @@ use Rattle.lines.specs.declared.line.Line.the-variants.{Fault, Read}
 use Rattle.lines.specs.declared.names.RuleLine.{RuleLine}
 use Rattle.lines.specs.declared.names.RuleLine.the-variants.{RuleFault, RuleRead}
 use Rattle.lines.specs.declared.names.RuleParts.{RuleParts}
-use Rattle.lines.specs.Bytes.{prefix, same}
+use Rattle.lines.specs.Bytes.{prefix}
+use Rattle.slices.specs.Same.{same}
 use Rattle.lines.specs.Decimal.{decimal}
 use Rattle.lines.specs.Lines.{lineLength, isLine, valueOf, says, unlessFault, ruleKey, countIn, counted, countLine, faultOf, stateLine, partsAt, ruleLine}
 use Rattle.lines.specs.Written.{Within}

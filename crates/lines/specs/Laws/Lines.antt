@@ -18,11 +18,13 @@ use Rattle.lines.specs.declared.classes.Class.the-variants.{InLine, InNa
 use Rattle.lines.specs.declared.line.Line.the-variants.{Fault, Read}
 use Rattle.lines.specs.declared.names.RuleLine.the-variants.{RuleFault, RuleRead}
 use Rattle.lines.specs.declared.names.RuleParts.{RuleParts}
-use Rattle.lines.specs.Bytes.{belongs, prefix, same}
+use Rattle.lines.specs.Bytes.{belongs, prefix}
+use Rattle.slices.specs.Same.{same}
 use Rattle.lines.specs.Decimal.{digitsIn, decimal}
 use Rattle.lines.specs.Lines.{varsKey, rulesKey, initKey, propKey, ruleKey, lineLength, isLine, valueOf, says, unlessFault, countIn, counted, countLine, all, faultOf, stateLine, isNamed, partsAt, ruleLine}
 use Rattle.lines.specs.Written.{Rule, Within, LegalExpr, LegalRule, line, writtenRule}
-use Rattle.lines.specs.Laws.Bytes.{all-nil, all-append, all-more, all-in-line, prefix-all, prefix-seam, all-prefix, prefix-ends, same-true, same-false, same-is}
+use Rattle.lines.specs.Laws.Bytes.{all-nil, all-append, all-more, all-in-line, prefix-all, prefix-seam, all-prefix, prefix-ends}
+use Rattle.slices.specs.Laws.Same.{same-true, same-false, same-is}
 use Rattle.lines.specs.Laws.Decimal.{decimal-apart}
 use Rattle.lines.specs.Laws.Numbers.{rule-numbers, by-rule}
 use Rattle.lines.specs.Laws.Expressions.{fault-there, fault-back, legal-in-line}

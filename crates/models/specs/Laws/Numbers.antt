@@ -11,9 +11,9 @@ use lib.Dec.{eqb, leb}
 use lib.ListN.{length}
 use Rattle.sets.specs.Laws.Choice.{by-test}
 use Rattle.lines.specs.declared.classes.Class.the-variants.{InExpression, Allowed}
-use Rattle.lines.specs.Bytes.{same}
+use Rattle.slices.specs.Same.{same}
 use Rattle.lines.specs.Lines.{varsKey, rulesKey, initKey, propKey, ruleKey, isLine, valueOf, countIn, all, isOne, isNamed}
-use Rattle.lines.specs.Laws.Bytes.{same-is}
+use Rattle.slices.specs.Laws.Same.{same-is}
 use Rattle.lines.specs.Laws.Lines.{ruleKey-in-line}
 use Rattle.models.specs.Refusals.{afterLines, CountLine, vars-line, rules-line, StateLine, init-line, prop-line, GivesCount, IsN, IsR, IsRuleLine, count-due, state-due, rule-due, HasName, Expression, of-state, of-rule, FitsAt, line-missing, name-taken, bytes-follow}
 use Rattle.models.specs.Laws.Grounds.{length-fails, byte-fails, letter-fails, form-fails}

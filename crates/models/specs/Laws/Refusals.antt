@@ -17,10 +17,11 @@ use Rattle.exprs.specs.Expr.{written}
 use Rattle.lines.specs.declared.classes.Class.the-variants.{InLine}
 use Rattle.lines.specs.declared.line.Line.{Line}
 use Rattle.lines.specs.declared.names.RuleLine.{RuleLine}
-use Rattle.lines.specs.Bytes.{same}
+use Rattle.slices.specs.Same.{same}
 use Rattle.lines.specs.Lines.{varsKey, rulesKey, initKey, propKey, ruleKey, lineLength, all, nameOf, isTaken, ruleLine}
 use Rattle.lines.specs.Written.{Rule, LegalRule, writtenRule}
-use Rattle.lines.specs.Laws.Bytes.{all-append, same-is}
+use Rattle.lines.specs.Laws.Bytes.{all-append}
+use Rattle.slices.specs.Laws.Same.{same-is}
 use Rattle.lines.specs.Laws.Lines.{line-append, rule-in-line, ruleKey-in-line}
 use Rattle.models.specs.declared.model.LineStart.{LineStart}
 use Rattle.models.specs.declared.model.Outcome.{Outcome}

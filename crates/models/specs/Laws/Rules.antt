@@ -17,10 +17,10 @@ use Rattle.exprs.specs.Expr.{written}
 use Rattle.lines.specs.declared.names.RuleLine.{RuleLine}
 use Rattle.lines.specs.declared.names.RuleLine.the-variants.{RuleRead}
 use Rattle.lines.specs.declared.names.RuleParts.{RuleParts}
-use Rattle.lines.specs.Bytes.{same}
+use Rattle.slices.specs.Same.{same}
 use Rattle.lines.specs.Lines.{ruleKey, partsAt, ruleLine, nameOf, isTaken}
 use Rattle.lines.specs.Written.{Rule, LegalRule, writtenRule}
-use Rattle.lines.specs.Laws.Bytes.{same-true, same-false}
+use Rattle.slices.specs.Laws.Same.{same-true, same-false}
 use Rattle.lines.specs.Laws.Heard.{RuleHeard, rule-fault, rule-said, rule-heard}
 use Rattle.lines.specs.Laws.Lines.{rule-reads, line-append}
 use Rattle.models.specs.declared.model.LineStart.{LineStart}

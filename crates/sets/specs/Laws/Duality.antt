@@ -12,8 +12,8 @@ use borrow.Author.Count.{below-none, below-more}
 use borrow.Author.Tests.{not-true, not-false}
 use Rattle.sets.specs.Bit.{has, full}
 use Rattle.sets.specs.Laws.Bit.{has-below, has-one}
-use Rattle.sets.specs.Sets.{_⊑_, part}
-use Rattle.sets.specs.Laws.Sets.{part-iff, part-refl, part-trans, part-le, part-antisym, part-zero, part-rest, apart-iff, shares-iff, shares-one, proper-lt}
+use Rattle.sets.specs.Sets.{_⊑_, Shares, part}
+use Rattle.sets.specs.Laws.Sets.{part-iff, part-refl, part-trans, part-le, part-antisym, part-zero, part-rest, apart-iff, shares-both, shares-iff, shares-one, proper-lt}
 use Rattle.sets.specs.Cores.{Least, Core, Cut, Monotone, breaks}
 use Rattle.sets.specs.Laws.Cores.{breaks-iff, breaks-core, least-agree, false-if}
 use Rattle.sets.specs.Demand3.{Hits}
@@ -154,12 +154,40 @@ module _ (R : ℕ) (h : ℕ → Bool) (mono : Monotone R h) where
         },
   )
 
+-- ---- a set that holds has a core inside, and a broken one a cut apart
+
+module _ (R : ℕ) (h : ℕ → Bool) (mono : Monotone R h) (S : ℕ) (l : S < 2 ^ R) where
+  core-inside : (h S ≡ true) ↔ ((C : ℕ) × (C < 2 ^ R) × Core h C × (C ⊑ S))
+  unfolding Core
+  core-inside = (
+    λ e. let c = contains-core h S e in (c .0, omega (arith, part-le (c .1)), c .2, c .1),
+    λ c. mono .more (c .0) S l (c .3) (c .2 .itself),
+  )
+
+  cut-apart : (h S ≡ false) ↔ ((C : ℕ) × (C < 2 ^ R) × Cut R h C × (¬ Shares C S))
+  unfolding Cut
+  cut-apart = (
+    λ e.
+        let twice : full R - (full R - S) ≡ S = omega arith in
+        let c = contains-core (breaks R h) (full R - S) (breaks-iff R h (full R - S) .1 (rw twice e)) in
+        let below : c .0 < 2 ^ R = omega (arith, part-le {S = c .0} (c .1), pow-pos R) in
+        (c .0, below, breaks-core R h (c .0) .0 (c .2), λ s. apart-iff R S (c .0) l below .1 (c .1) (shares-both {S = c .0} {T = S} s)),
+    λ c.
+        false-if (h S)
+        (λ t.
+        let within = apart-iff R (c .0) S (c .1) l .0 (c .3) in
+        true≢false (sym (mono .more S (full R - c .0) (omega (arith, pow-pos R)) within t) ∙ c .2 .itself)),
+  )
+
 -- ---- the theorem
 
 -- How the cores, the cuts and MUST of R rules judged by h meet.
 pub record Duality (R : ℕ) (h : ℕ → Bool) : Type 0 where
   -- Every set that holds contains a core.
   pub contains : (S : ℕ) → h S ≡ true → (C : ℕ) × (C ⊑ S) × Core h C
+  -- A set holds exactly when some core is a part of it, and is broken exactly when some cut shares no rule with it.
+  pub inside : (S : ℕ) → S < 2 ^ R → (h S ≡ true) ↔ ((C : ℕ) × (C < 2 ^ R) × Core h C × (C ⊑ S))
+  pub apart : (S : ℕ) → S < 2 ^ R → (h S ≡ false) ↔ ((C : ℕ) × (C < 2 ^ R) × Cut R h C × (¬ Shares C S))
   -- The removal of a set leaves a broken set exactly when the set shares a rule with every core.
   pub removal : (S : ℕ) → S < 2 ^ R → (h (full R - S) ≡ false) ↔ Hits R (Core h) S
   -- A set is a cut exactly when it shares a rule with every core and no proper part of it does.
@@ -176,6 +204,8 @@ pub duality : (R : ℕ) (h : ℕ → Bool) → Monotone R h → Duality R h
 duality R h mono =
     record {
       contains = contains-core h;
+      inside = core-inside R h mono;
+      apart = cut-apart R h mono;
       removal = removal-hits R h mono;
       cuts = cuts-hit R h mono;
       cores = cores-hit R h mono;

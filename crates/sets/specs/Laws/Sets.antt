@@ -3,17 +3,18 @@
 use Prim.Native.Nat.{ℕ, _+_, _-_, _/_, _%_, _^_, _≤_, _<_}
 use mathlib.Core.Path.{_≡_, refl, sym, ap, subst, _∙_}
 use mathlib.Core.Logic.{_↔_, _≢_, _⊎_, inl, inr, ⊎-elim}
-use mathlib.Core.Bool.{true, _&&_, and-eq-true-iff}
+use mathlib.Core.Bool.{Bool, true, false, _&&_, true≢false, and-eq-true-iff}
 use native.Mathlib.Omega.{arith}
 use native.Mathlib.Decide.{decLt}
 use native.Mathlib.Nat.{mod-lt}
+use lib.Dec.{eqb}
 use lib.Bits.{bitAnd, and-le-r, and-comm}
 use lib.Pow.{pow-pos, lt-of-le-ones}
 use borrow.Author.Tests.{eqb-true, eq-eqb}
 use Rattle.sets.specs.Laws.Choice.{alike}
 use Rattle.sets.specs.Bit.{has, full}
 use Rattle.sets.specs.Laws.Bit.{has-low, has-high, has-and, has-or, has-minus, has-le, has-some, has-below, has-zero, has-full, has-rest, has-one}
-use Rattle.sets.specs.Sets.{Before, ProperPart, Shares, _⊑_, asMany, fewer, part, with, without}
+use Rattle.sets.specs.Sets.{Before, ProperPart, Shares, _⊑_, asMany, fewer, part, apart, with, without}
 
 -- ---- parts
 
@@ -172,6 +173,25 @@ apart-iff R S T hS hT = (
   },
   λ p s. has-rest R S (s .rule) hS .0 (p .every (s .rule) (s .inSecond)) .1 (s .inFirst),
 )
+
+pub shares-both : {S T : ℕ} → Shares S T → Shares T S
+shares-both s = record { rule = s .rule; inFirst = s .inSecond; inSecond = s .inFirst }
+
+-- The test for sets apart tells those that share no rule.
+pub apart-tells : (S T : ℕ) → (apart S T ≡ true) ↔ (¬ Shares S T)
+unfolding apart
+apart-tells S T = (λ e s. shares-iff S T .0 s (eqb-true (bitAnd S T) 0 e), λ n. go n (eqb (bitAnd S T) 0) refl)
+  where
+    go : ¬ Shares S T → (b : Bool) → eqb (bitAnd S T) 0 ≡ b → b ≡ true
+    go n true e = refl
+    go n false e = absurd (n (shares-iff S T .1 (λ z. true≢false (sym (eq-eqb (bitAnd S T) 0 z) ∙ e))))
+
+-- A set is apart from T exactly when it is a part of all rules but those of T.
+pub apart-part : (R S T : ℕ) → S < 2 ^ R → T < 2 ^ R → apart S T ≡ part S (full R - T)
+apart-part R S T hS hT =
+    alike (apart S T) (part S (full R - T))
+    (λ e. part-iff S (full R - T) .1 (apart-iff R T S hT hS .0 (λ s. apart-tells S T .0 e (shares-both s))))
+    (λ e. apart-tells S T .1 (λ s. apart-iff R T S hT hS .1 (part-iff S (full R - T) .0 e) (shares-both s)))
 
 -- ---- the order
 

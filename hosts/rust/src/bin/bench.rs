@@ -5,12 +5,16 @@
 
 #![deny(warnings)]
 
+use std::hint::black_box;
 use std::path::Path;
 use std::time::{Duration, Instant};
 
+use codremif_host::answer::Said;
 use codremif_host::calls;
+use codremif_host::compare::place_in;
 use codremif_host::judgements;
-use codremif_host::plain::answers::{judge, write_list};
+use codremif_host::plain::answers::{judge, list_bytes, write_list};
+use codremif_host::plain::lookup;
 use codremif_host::plain::sets::{irrelevant, may, must, Verdicts};
 use codremif_host::plain::system::TransitionSystem;
 use codremif_host::plain::text::{self, Model};
@@ -35,11 +39,15 @@ fn main() {
     table("Largest models: 7 bits, 16 rules", largest_models());
     table("Growing N, 16 rules", (1..=7).map(|bits| growing(bits, 16)).collect());
     table("Growing R, 7 bits", (1..=16).map(|rules| growing(7, rules)).collect());
+    table_of_lookups();
     println!(
         "Times are medians in milliseconds; 'ratio' is the plain search's time divided by the library's."
     );
     println!("'judged' is how many sets a list call judges; the plain search judges all 2^R, and MUST takes R + 1 at most.");
     println!("The judge call is given the full set. All answers of the two sides were alike.");
+    println!(
+        "Where a set is looked up, times are nanoseconds for each listed set passed over; at most 2 are stated."
+    );
 }
 
 struct Case {
@@ -169,11 +177,62 @@ fn read(text: &[u8]) -> Model {
     text::read(text).expect("an accepted model")
 }
 
+/// Lists of which every set is passed over, as long as any model's.
+struct PassedOver {
+    name: &'static str,
+    set: u32,
+    cores: Vec<u8>,
+    cuts: Vec<u8>,
+}
+
+/// The sets of eight of 16 rules: none is inside a set of seven rules, and none is apart from a set of nine. With rule 0 in
+/// each of them, none is apart from a set that has it.
+fn passed_over() -> Vec<PassedOver> {
+    const SEVEN: u32 = 0x007F;
+    const NINE: u32 = 0x01FF;
+    let eights: Vec<u16> = (0..=u16::MAX).filter(|set| set.count_ones() == 8).collect();
+    let with_rule_0: Vec<u16> = eights.iter().map(|set| set | 1).collect();
+    let (cores, cuts, cuts_with_rule_0) =
+        (list_bytes(&eights), list_bytes(&eights), list_bytes(&with_rule_0));
+    vec![
+        PassedOver { name: "the core list", set: SEVEN, cores: cores.clone(), cuts: Vec::new() },
+        PassedOver { name: "the cut list", set: NINE, cores: Vec::new(), cuts },
+        PassedOver { name: "both lists", set: SEVEN, cores, cuts: cuts_with_rule_0 },
+    ]
+}
+
+fn table_of_lookups() {
+    println!("Looking a set up in lists of 12,870 sets, nothing found");
+    println!("{:<22} {:>18} |{} |{}", "passed over", "sets", heading("suffices"), heading("witness"));
+    for PassedOver { name, set, cores, cuts } in passed_over() {
+        let sets = (cores.len() + cuts.len()) / 2;
+        // Without the black box the plain search of all runs could be made once.
+        let suffices =
+            timed(|| calls::suffices(set, &cores, &cuts), || lookup::suffices(black_box(set), &cores, &cuts));
+        let place = timed(
+            || calls::witness_place(set, &cores, &cuts),
+            || place_in(&[], lookup::witness(black_box(set), &cores, &cuts)),
+        );
+        assert_eq!((suffices.answer, place.answer), (Ok(Said::Unlisted), None), "{name}");
+        println!("{name:<22} {sets:>18} |{} |{}", suffices.for_each_of(sets), place.for_each_of(sets));
+    }
+    println!();
+}
+
 /// One answer and how long each side took for it.
 struct Timed<T> {
     answer: T,
     library: Duration,
     plain: Duration,
+}
+
+impl<T> Timed<T> {
+    /// The nanoseconds for each of so many sets, and the ratio.
+    fn for_each_of(&self, sets: usize) -> String {
+        let nanoseconds = |time: Duration| time.as_secs_f64() * 1e9 / sets as f64;
+        let (library, plain) = (nanoseconds(self.library), nanoseconds(self.plain));
+        format!(" {library:>9.3} {plain:>9.3} {:>7.2}", plain / library)
+    }
 }
 
 impl<T> std::fmt::Display for Timed<T> {

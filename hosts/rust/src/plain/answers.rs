@@ -59,11 +59,15 @@ pub fn judge(system: &TransitionSystem, set: u32, lent: &mut [u8]) -> Result<Ver
     }
 }
 
-/// Writes a list, two bytes a set, low byte first.
+/// Writes a list to lent bytes.
 pub fn write_list(list: &[u16], lent: &mut [u8]) -> Result<usize, Refused> {
-    let bytes: Vec<u8> = list.iter().flat_map(|set| [(set % 256) as u8, (set / 256) as u8]).collect();
-    write_bytes(&bytes, lent)?;
+    write_bytes(&list_bytes(list), lent)?;
     Ok(list.len())
+}
+
+/// The bytes of a list: two for each set, low byte first.
+pub fn list_bytes(list: &[u16]) -> Vec<u8> {
+    list.iter().flat_map(|set| [(set % 256) as u8, (set / 256) as u8]).collect()
 }
 
 /// Bytes past the last one keep their content; too few lent bytes all keep theirs.

@@ -5,11 +5,13 @@
 //! * [`system`]: the transition system of a model: start states, bad states, steps, reached states.
 //! * [`trace`]: the shortest run to a bad state, the first of its length.
 //! * [`sets`]: every rule set judged; cores, cuts, MUST, MAY and the irrelevant rules by definition.
-//! * [`answers`]: the calls.
+//! * [`answers`]: the calls that read a text.
+//! * [`lookup`]: the calls that read none, but a core list and a cut list.
 //! * [`report`]: the report, as bytes.
 
 pub mod answers;
 pub mod expression;
+pub mod lookup;
 pub mod report;
 pub mod sets;
 pub mod system;

@@ -1,7 +1,8 @@
-//! Models and damaged texts made from a seed.
+//! Models, damaged texts and lists made from a seed.
 
 pub mod damage;
 pub mod generator;
+pub mod lists;
 pub mod models;
 pub mod written;
 

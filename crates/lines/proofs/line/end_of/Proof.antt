@@ -5,7 +5,7 @@ use mathlib.Core.Bool.{true, false}
 use lib.ListN.{length, take}
 use borrow.Author.Needs.{needs}
 use borrow.Author.Tests.{not-true, not-false, lt-ltb, le-ltb}
-use Rattle.lines.specs.Bytes.{same}
+use Rattle.slices.specs.Same.{same}
 use Rattle.lines.specs.Lines.{isLine, endOf}
 use Rattle.lines.proofs.line.end_of.Statement.{statement}
 use Rattle.lines.proofs.line.end_of.Tie as tie
@@ -19,14 +19,14 @@ end-of-spec =
     (λ c κs. search needs)
     (λ c.
     let a = c .before .before .before .before .before .args in
-    let q : same (take (length (a .key .now)) (a .s .now)) (a .key .now) ≡ false = ap (λ l. same l (a .key .now)) (sym (c .before .before .front .ensures)) ∙ sym (c .before .same-bytes .ensures) ∙ not-true _ (c .if1 .taken) in
+    let q : same (take (length (a .key .now)) (a .s .now)) (a .key .now) ≡ false = ap (λ l. same l (a .key .now)) (sym (c .before .before .front .ensures .0)) ∙ sym (c .before .same-bytes .ensures) ∙ not-true _ (c .if1 .taken) in
     rw q)
     (λ c κs. search needs)
     (λ c.
     let a = c .before .before .before .before .before .before .before .args in
-    let q : same (take (length (a .key .now)) (a .s .now)) (a .key .now) ≡ true = ap (λ l. same l (a .key .now)) (sym (c .before .before .before .before .front .ensures)) ∙ sym (c .before .before .before .same-bytes .ensures) ∙ not-false _ (c .before .before .if1 .left) in
+    let q : same (take (length (a .key .now)) (a .s .now)) (a .key .now) ≡ true = ap (λ l. same l (a .key .now)) (sym (c .before .before .before .before .front .ensures .0)) ∙ sym (c .before .before .before .same-bytes .ensures) ∙ not-false _ (c .before .before .if1 .left) in
     rw (q, ← c .before .line-length .ensures, lt-ltb _ _ (c .if2 .taken)))
     (λ c.
     let a = c .before .before .before .before .before .before .before .args in
-    let q : same (take (length (a .key .now)) (a .s .now)) (a .key .now) ≡ true = ap (λ l. same l (a .key .now)) (sym (c .before .before .before .before .front .ensures)) ∙ sym (c .before .before .before .same-bytes .ensures) ∙ not-false _ (c .before .before .if1 .left) in
+    let q : same (take (length (a .key .now)) (a .s .now)) (a .key .now) ≡ true = ap (λ l. same l (a .key .now)) (sym (c .before .before .before .before .front .ensures .0)) ∙ sym (c .before .before .before .same-bytes .ensures) ∙ not-false _ (c .before .before .if1 .left) in
     rw (q, ← c .before .line-length .ensures, le-ltb _ _ (c .if2 .left))))

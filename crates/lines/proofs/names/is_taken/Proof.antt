@@ -7,7 +7,7 @@ use mathlib.Core.List.{List}
 use native.Mathlib.Omega.{arith}
 use native.Mathlib.Numerals.{add-one}
 use borrow.Author.Needs.{needs}
-use Rattle.lines.specs.Bytes.{same}
+use Rattle.slices.specs.Same.{same}
 use Rattle.lines.specs.Lines.{isTaken}
 use Rattle.lines.proofs.names.is_taken.Statement.{statement}
 use Rattle.lines.proofs.names.is_taken.Tie as tie

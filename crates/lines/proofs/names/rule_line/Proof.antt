@@ -109,7 +109,7 @@ module _ (p : tie.After-is-named) where
   }
 
   s-is : s ≡ drop (start .args .at) (start .args .text .now)
-  s-is = rest-of .rest .ensures
+  s-is = rest-of .rest .ensures .0
 
   -- the line ends within the text
   within : start .args .at + end < length (start .args .text .now)
@@ -132,7 +132,7 @@ rule-line-spec =
     (λ c κs. search needs)
     (λ c. search needs)
     (λ c. search needs)
-    (λ c. no-rule-line _ _ _ _ (c .before .before .end-of .ensures) (c .enum-told .given .1) ∙ ap (ruleLine _ _ _) (c .before .before .before .before .rest .ensures))
+    (λ c. no-rule-line _ _ _ _ (c .before .before .end-of .ensures) (c .enum-told .given .1) ∙ ap (ruleLine _ _ _) (c .before .before .before .before .rest .ensures .0))
     (λ c κs. search needs)
     (λ c κs. search needs)
     (λ c κs. search needs)
@@ -143,7 +143,7 @@ rule-line-spec =
     (λ c.
     let p = c .before in
     let n = named p in
-    repeated _ _ _ (valued n) (good p) (p .before .front .ensures) (p .is-taken .ensures) (c .if2 .taken) ∙ ap (ruleLine _ _ _) (s-is n))
+    repeated _ _ _ (valued n) (good p) (p .before .front .ensures .0) (p .is-taken .ensures) (c .if2 .taken) ∙ ap (ruleLine _ _ _) (s-is n))
     (λ c. let p = c .before in omega (arith, valued (named p) .short (good p)))
     (λ c κs. search needs)
     (λ c κs. search needs)
@@ -151,7 +151,7 @@ rule-line-spec =
     let e = c .before .before .before in
     let p = e .before in
     let n = named p in
-    at-fault _ _ _ (valued n) (good p) (p .before .front .ensures) (p .is-taken .ensures) (e .if2 .left) (c .before .before .rest2 .ensures) (c .before .fault-in .ensures) (c .if3 .taken)
+    at-fault _ _ _ (valued n) (good p) (p .before .front .ensures .0) (p .is-taken .ensures) (e .if2 .left) (c .before .before .rest2 .ensures .0) (c .before .fault-in .ensures) (c .if3 .taken)
     ∙ ap (ruleLine _ _ _) (s-is n))
     (λ c. let p = c .before .before .before .before in omega (arith, within (named p), start (named p) .good .0))
     (λ c. let p = c .before .before .before .before in omega (arith, valued (named p) .short (good p)))
@@ -161,5 +161,5 @@ rule-line-spec =
     let e = c .before .before .before in
     let p = e .before in
     let n = named p in
-    read _ _ _ (valued n) (good p) (p .before .front .ensures) (p .is-taken .ensures) (e .if2 .left) (c .before .before .rest2 .ensures) (c .before .fault-in .ensures) (c .if3 .left)
+    read _ _ _ (valued n) (good p) (p .before .front .ensures .0) (p .is-taken .ensures) (e .if2 .left) (c .before .before .rest2 .ensures .0) (c .before .fault-in .ensures) (c .if3 .left)
     ∙ ap (ruleLine _ _ _) (s-is n)))

@@ -83,7 +83,7 @@ module _ (p : tie.After-a) where
   bytes-a = p .a .given .0 .1 .0
 
   heard-a : countLine varsKey 7 text ≡ Read vars-of bytes-a
-  heard-a = ap (countLine varsKey 7) (sym (p .before .before .before .rest .ensures)) ∙ sym (p .before .before .count-line .ensures) ∙ p .a .given .1
+  heard-a = ap (countLine varsKey 7) (sym (p .before .before .before .rest .ensures .0)) ∙ sym (p .before .before .count-line .ensures) ∙ p .a .given .1
 
   says-a : SaysWithin text 7 vars-of bytes-a
   says-a = says-of (count-heard varsKey 7 text) heard-a
@@ -108,7 +108,7 @@ module _ (p : tie.After-b) where
   placed-b = subst (Placed (text a-of)) (sym place-b) (placed-behind (says-a a-of .within .atLeast) (passes-a a-of))
 
   said-b : countLine rulesKey 16 (drop (at-b .at) (text a-of)) ≡ Read (p .b .given .0 .0) bytes-b
-  said-b = heard (countLine rulesKey 16) (p .before .before .count-line2 .ensures) (p .before .before .before .rest2 .ensures) (p .b .given .1)
+  said-b = heard (countLine rulesKey 16) (p .before .before .count-line2 .ensures) (p .before .before .before .rest2 .ensures .0) (p .b .given .1)
 
   says-b : SaysWithin (drop (at-b .at) (text a-of)) 16 (p .b .given .0 .0) bytes-b
   says-b = says-of (count-heard rulesKey 16 (drop (at-b .at) (text a-of))) said-b
@@ -142,7 +142,7 @@ module _ (p : tie.After-c) where
   placed-c = subst (Placed text-c) (sym (p .before .before .before .before .before .behind2 .ensures)) (placed-behind (says-b b-of .within .atLeast) (passes-b b-of))
 
   said-c : stateLine initKey vars-c (drop (at-c .at) text-c) ≡ Read (p .c .given .0 .0) bytes-c
-  said-c = heard (stateLine initKey vars-c) (p .before .before .state-line .ensures) (p .before .before .before .rest3 .ensures) (p .c .given .1)
+  said-c = heard (stateLine initKey vars-c) (p .before .before .state-line .ensures) (p .before .before .before .rest3 .ensures .0) (p .c .given .1)
 
   says-c : SaysWithin (drop (at-c .at) text-c) (length initKey) (p .c .given .0 .0) bytes-c
   says-c = says-of (state-heard initKey vars-c (drop (at-c .at) text-c)) said-c
@@ -176,7 +176,7 @@ module _ (p : tie.After-d) where
   placed-d = subst (Placed text-d) (sym (p .before .before .before .before .before .behind3 .ensures)) (placed-behind (says-c c-of .within .atLeast) (passes-c c-of))
 
   said-d : stateLine propKey vars-d (drop (at-d .at) text-d) ≡ Read (p .d .given .0 .0) bytes-d
-  said-d = heard (stateLine propKey vars-d) (p .before .before .state-line2 .ensures) (p .before .before .before .rest4 .ensures) (p .d .given .1)
+  said-d = heard (stateLine propKey vars-d) (p .before .before .state-line2 .ensures) (p .before .before .before .rest4 .ensures .0) (p .d .given .1)
 
   says-d : SaysWithin (drop (at-d .at) text-d) (length propKey) (p .d .given .0 .0) bytes-d
   says-d = says-of (state-heard propKey vars-d (drop (at-d .at) text-d)) said-d
@@ -201,7 +201,7 @@ read-model-spec =
     (λ c.
     let l = c .before .before in
     at-fault {q = textStart} (c .refuse .ensures) (c .before .fault-number .ensures) (l .enum-told .given .1) refl
-    ∙ sym (stop₁ _ (heard (countLine varsKey 7) (l .before .before .count-line .ensures) (l .before .before .before .rest .ensures) (l .enum-told .given .1))))
+    ∙ sym (stop₁ _ (heard (countLine varsKey 7) (l .before .before .count-line .ensures) (l .before .before .before .rest .ensures .0) (l .enum-told .given .1))))
     (λ c κs. passes-a (c .before))
     (λ c. search needs)
     (λ c κs. search needs)
@@ -217,7 +217,7 @@ read-model-spec =
     at-fault (c .refuse2 .ensures) (c .before .fault-number2 .ensures) (l .enum-told2 .given .1) (q .behind .ensures)
     ∙ sym (stop₂ (text a) (heard-a a)
     (moved (countLine rulesKey 16) (text a) (q .behind .ensures)
-    (heard (countLine rulesKey 16) (l .before .before .count-line2 .ensures) (l .before .before .before .rest2 .ensures) (l .enum-told2 .given .1)))))
+    (heard (countLine rulesKey 16) (l .before .before .count-line2 .ensures) (l .before .before .before .rest2 .ensures .0) (l .enum-told2 .given .1)))))
     (λ c κs. passes-b (c .before))
     (λ c. search needs)
     (λ c κs. search needs)
@@ -235,7 +235,7 @@ read-model-spec =
     at-fault (c .refuse3 .ensures) (c .before .fault-number3 .ensures) (l .enum-told3 .given .1) place
     ∙ sym (stop₃ (text a) (heard-a a) (heard-b b)
     (moved (stateLine initKey (vars-of a)) (text a) place
-    (heard (stateLine initKey (vars-of a)) (l .before .before .state-line .ensures) (l .before .before .before .rest3 .ensures) (l .enum-told3 .given .1)))))
+    (heard (stateLine initKey (vars-of a)) (l .before .before .state-line .ensures) (l .before .before .before .rest3 .ensures .0) (l .enum-told3 .given .1)))))
     (λ c κs. passes-c (c .before))
     (λ c. search needs)
     (λ c κs. search needs)
@@ -254,7 +254,7 @@ read-model-spec =
     at-fault (c .refuse4 .ensures) (c .before .fault-number4 .ensures) (l .enum-told4 .given .1) place
     ∙ sym (stop₄ (text a) (heard-a a) (heard-b b) (heard-c p)
     (moved (stateLine propKey (vars-of a)) (text a) place
-    (heard (stateLine propKey (vars-of a)) (l .before .before .state-line2 .ensures) (l .before .before .before .rest4 .ensures) (l .enum-told4 .given .1)))))
+    (heard (stateLine propKey (vars-of a)) (l .before .before .state-line2 .ensures) (l .before .before .before .rest4 .ensures .0) (l .enum-told4 .given .1)))))
     (λ c κs. passes-d (c .before))
     (λ c κs.
     let d = c .before .before in

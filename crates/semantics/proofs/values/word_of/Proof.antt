@@ -23,5 +23,5 @@ word-of-spec =
     (λ c κs. search needs)
     (λ c. search needs)
     (λ c. search needs)
-    (λ c. answered _ _ _ _ _ _ _ (c .before .before .before .before .rest .ensures) (c .before .before .before .words .ensures) (c .before .w .given .1))
-    (λ c. answered _ _ _ _ _ _ _ (c .before .before .before .rest .ensures) (c .before .before .words .ensures) (c .enum-told .given .1)))
+    (λ c. answered _ _ _ _ _ _ _ (c .before .before .before .before .rest .ensures .0) (c .before .before .before .words .ensures) (c .before .w .given .1))
+    (λ c. answered _ _ _ _ _ _ _ (c .before .before .before .rest .ensures .0) (c .before .before .words .ensures) (c .enum-told .given .1)))

@@ -1,10 +1,10 @@
--- `lines::parts::byte_at` meets its contract: past its end a list has the default.
+-- `slices::parts::byte_at` meets its contract: past its end a list has the default.
 -- Assumes nothing.
 use mathlib.Core.Path.{sym}
 use borrow.Author.Needs.{needs}
 use lib.ListN.{List·getD-eq-default}
-use Rattle.lines.proofs.parts.byte_at.Statement.{statement}
-use Rattle.lines.proofs.parts.byte_at.Tie as tie
+use Rattle.slices.proofs.parts.byte_at.Statement.{statement}
+use Rattle.slices.proofs.parts.byte_at.Tie as tie
 
 pub byte-at-spec : {M : Type 1} → statement M
 byte-at-spec =

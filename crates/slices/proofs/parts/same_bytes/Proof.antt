@@ -1,4 +1,4 @@
--- `lines::parts::same_bytes` meets its contract. The loop's invariant: the two slices agree at every index passed.
+-- `slices::parts::same_bytes` meets its contract. The loop's invariant: the two slices agree at every index passed.
 -- Assumes nothing.
 use Prim.Native.Nat.{ℕ, _-_, _≤_, _<_}
 use mathlib.Core.Path.{_≡_, sym, ap}
@@ -7,9 +7,9 @@ use native.Mathlib.Omega.{arith}
 use borrow.Author.Count.{below-more}
 use lib.ListN.{length, getD}
 use lib.Seq.{ext-getD}
-use Rattle.lines.specs.Laws.Bytes.{same-true, same-false}
-use Rattle.lines.proofs.parts.same_bytes.Statement.{statement}
-use Rattle.lines.proofs.parts.same_bytes.Tie as tie
+use Rattle.slices.specs.Laws.Same.{same-true, same-false}
+use Rattle.slices.proofs.parts.same_bytes.Statement.{statement}
+use Rattle.slices.proofs.parts.same_bytes.Tie as tie
 
 abbrev Inv-loop : tie.InvT-loop
 Inv-loop a b i₀ i = (i ≤ length a) × ((k : ℕ) → k < i → getD a k 0 ≡ getD b k 0)

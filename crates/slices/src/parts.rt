@@ -1,12 +1,16 @@
-// Parts of a slice that is handed on, and nothing copied. Each answers for every place, so that no caller has to show that a place is within.
+// Parts of a slice that is handed on, and nothing copied: `ptr` says where a part lies. Each answers for every place, so that no caller has to show
+// that a place is within.
 ghost use mathlib.Core.Path.{_≡_};
 ghost use Prim.Native.Nat.{_-_};
 ghost use lib.ListN.{take, drop, getD};
-ghost use Rattle.lines.specs.Bytes.{same};
+ghost use denote.Ref.{ptr};
+ghost use Rattle.slices.specs.Address.{restAddress};
+ghost use Rattle.slices.specs.Same.{same};
 
 // The first `to` bytes, or all where there are fewer.
-pub(crate) fn front(s: &[u8], to: usize) -> &[u8]
+pub fn front(s: &[u8], to: usize) -> &[u8]
     ensures { λ r. ⌜ now r ≡ take to (now (s .entry)) ⌝ }
+    ensures { λ r. ⌜ ptr r ≡ ptr (s .entry) ⌝ }
 {
     if to < s.len() { &s[..to] } else { s }
 }
@@ -14,12 +18,13 @@ pub(crate) fn front(s: &[u8], to: usize) -> &[u8]
 // What follows the first `from` bytes.
 pub fn rest(s: &[u8], from: usize) -> &[u8]
     ensures { λ r. ⌜ now r ≡ drop from (now (s .entry)) ⌝ }
+    ensures { λ r. ⌜ ptr r ≡ restAddress (ptr (s .entry)) (now (s .entry)) from ⌝ }
 {
     if from <= s.len() { &s[from..] } else { &s[..0] }
 }
 
 // The bytes from `from` up to `to`, or up to the end where there are fewer.
-pub(crate) fn part(s: &[u8], from: usize, to: usize) -> &[u8]
+pub fn part(s: &[u8], from: usize, to: usize) -> &[u8]
     ensures { λ r. ⌜ now r ≡ take (to - from) (drop from (now (s .entry))) ⌝ }
 {
     if s.len() < to {
@@ -29,14 +34,14 @@ pub(crate) fn part(s: &[u8], from: usize, to: usize) -> &[u8]
 }
 
 // The byte at a place, and 0 past the end.
-pub(crate) fn byte_at(s: &[u8], at: usize) -> u8
+pub fn byte_at(s: &[u8], at: usize) -> u8
     ensures { λ r. ⌜ r ≡ getD (now (s .entry)) at 0 ⌝ }
 {
     if at < s.len() { s[at] } else { 0 }
 }
 
 // Whether two slices hold the same bytes.
-pub(crate) fn same_bytes(a: &[u8], b: &[u8]) -> bool
+pub fn same_bytes(a: &[u8], b: &[u8]) -> bool
     ensures { λ r. ⌜ r ≡ same (now (a .entry)) (now (b .entry)) ⌝ }
 {
     if a.len() != b.len() {
