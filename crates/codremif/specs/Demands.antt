@@ -1,5 +1,5 @@
 -- The demands of the mission, as theorems about what exactly the calls answer and write. Nothing is assumed.
--- To believe them, read these files below crates/ in this order (lines without imports and blank lines, 1,321 in all). What is proved of their
+-- To believe them, read these files below crates/ in this order (lines without imports and blank lines, 1,322 in all). What is proved of their
 -- definitions stands in `Laws` and need not be read, and neither need the functions that compute (the reading of a text, the verdict, the lists):
 -- the theorems say what they give.
 --   a number as a set of rules or of letters           sets/specs/Bit                8
@@ -23,8 +23,8 @@
 --   which list is meant, and which kind of rules       sorting/specs/Which          13
 --   what each call answers and writes                  calls/specs/Answers          91
 --   a list in bytes, and the first set that fits       lookup/specs/Search          29
---   where a part of a slice lies                       slices/specs/Address          8
---   what two lists say of a set, and the witness       lookup/specs/Suffices        56
+--   where a part of a slice lies                       slices/specs/Address         11
+--   what two lists say of a set, and the witness       lookup/specs/Suffices        54
 --   an answer as one 64-bit number                     codremif/specs/Packing       59
 --   demand 1 for a text                                codremif/specs/Demand1       53
 --   demand 2 for a text                                codremif/specs/Demand2       16

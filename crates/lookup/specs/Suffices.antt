@@ -16,19 +16,16 @@ use Rattle.lookup.specs.declared.search.Found.{Found}
 use Rattle.lookup.specs.declared.search.Found.the-variants.{At, Nowhere}
 use Rattle.lookup.specs.Search.{firstIn, fits, StandsFirst, NoneStands}
 
--- "If none is, it looks for the first listed cut that has no rule in the set." "If neither is found, it says unlisted".
-unfoldable pub cutSaid : Found → SufficesAnswer
-cutSaid (At place) = CutApart place
-cutSaid Nowhere = Unlisted
-
--- "the call looks for the first listed core inside the set and stops there."
-unfoldable pub coreSaid : Found → SufficesAnswer → SufficesAnswer
-coreSaid (At place) otherwise = CoreInside place
-coreSaid Nowhere otherwise = otherwise
+-- What is said, by the first listed core inside the set and the first listed cut that has no rule in it: "the call looks for the first listed core inside
+-- the set and stops there." "If none is, it looks for the first listed cut that has no rule in the set." "If neither is found, it says unlisted".
+unfoldable pub saidBy : Found → Found → SufficesAnswer
+saidBy (At place) cut = CoreInside place
+saidBy Nowhere (At place) = CutApart place
+saidBy Nowhere Nowhere = Unlisted
 
 -- The set is looked up as it stands, whatever rules it has.
 unfoldable pub lookedUp : ℕ → List ℕ → List ℕ → SufficesAnswer
-lookedUp S cores cuts = coreSaid (firstIn (fits Inside S) cores) (cutSaid (firstIn (fits Apart S) cuts))
+lookedUp S cores cuts = saidBy (firstIn (fits Inside S) cores) (firstIn (fits Apart S) cuts)
 
 -- "12, a list has an odd count of bytes."
 unfoldable pub oddCount : List ℕ → Bool

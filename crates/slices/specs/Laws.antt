@@ -1,2 +1,3 @@
 -- What is proved of the definitions of this crate.
 pub mod Same
+pub mod Address

@@ -4,7 +4,7 @@ ghost use mathlib.Core.Path.{_≡_};
 ghost use Prim.Native.Nat.{_-_};
 ghost use lib.ListN.{take, drop, getD};
 ghost use denote.Ref.{ptr};
-ghost use Rattle.slices.specs.Address.{restAddress};
+ghost use Rattle.slices.specs.Address.{restAddress, partAddress};
 ghost use Rattle.slices.specs.Same.{same};
 
 // The first `to` bytes, or all where there are fewer.
@@ -26,6 +26,7 @@ pub fn rest(s: &[u8], from: usize) -> &[u8]
 // The bytes from `from` up to `to`, or up to the end where there are fewer.
 pub fn part(s: &[u8], from: usize, to: usize) -> &[u8]
     ensures { λ r. ⌜ now r ≡ take (to - from) (drop from (now (s .entry))) ⌝ }
+    ensures { λ r. ⌜ ptr r ≡ partAddress (ptr (s .entry)) (now (s .entry)) from to ⌝ }
 {
     if s.len() < to {
         return rest(s, from);

@@ -22,9 +22,8 @@ use Rattle.lookup.specs.Suffices.{sufficesAnswer, partSaid, witnessOf, Suffices
 use Rattle.lookup.specs.Laws.Suffices.{Ways, odd-way, inside-way, apart-way, unlisted-way, ways, said-of, answer-said}
 use Rattle.lookup.specs.Laws.Lists.{held-said, broken-said}
 use Rattle.calls.specs.declared.answers.JudgeAnswer.the-variants.{Holds, Broken}
-use Rattle.calls.specs.declared.answers.ListAnswer.the-variants.{Count}
-use Rattle.calls.specs.Answers.{rulesIn, systemIn, judgeIn, traceIn, listIn, textOutcome, judgeAnswer, listAnswer, listBytes}
-use Rattle.codremif.specs.Packing.{InRange, accepted, refused, judgeParts, listParts, sufficesParts, witnessPlace, packed}
+use Rattle.calls.specs.Answers.{rulesIn, systemIn, judgeIn, traceIn, listIn, textOutcome, judgeAnswer, listBytes}
+use Rattle.codremif.specs.Packing.{InRange, accepted, refused, judgeParts, sufficesParts, witnessPlace, packed}
 use Rattle.codremif.specs.Demand3.{inRattle, forHosts, GivesList}
 use Rattle.codremif.specs.Suffices.{hostSaid, byHosts, bytesAt, Witnessed, TextTelling, textByAnswers, textByHosts, WroteList, Agrees, QuickAnswer}
 use Rattle.calls.specs.Laws.Answers.{rules-most, judge-enough, verdict-broken}
@@ -32,6 +31,10 @@ use Rattle.calls.specs.Laws.Sizes.{trace-le}
 use Rattle.codremif.specs.Laws.Demand3.{monotone-in, by-call, list-given, list-packed}
 
 -- ---- any two lists
+
+two-taken : (list : List ℕ) (place : ℕ) → suc place < length list → take 2 (drop place list) ≡ bytesAt list place
+unfolding bytesAt
+two-taken list place h = rw (drop-cons list place 0 (omega arith), drop-cons list (suc place) 0 (omega arith))
 
 module _ (S : ℕ) (cores cuts : List ℕ) where
   pub suffices-range : InRange (sufficesParts (sufficesAnswer S cores cuts))
@@ -56,10 +59,6 @@ module _ (S : ℕ) (cores cuts : List ℕ) where
   host-said = said-of {code = λ x. x .suffices} {place = λ x. x .witness}
       (record { odd = refl; inside = λ p. refl; apart = λ p. refl; unlisted = refl; insideAt = λ p. refl; apartAt = λ p. refl })
       (host-ways (ways S cores cuts))
-
-  two-taken : (list : List ℕ) (place : ℕ) → suc place < length list → take 2 (drop place list) ≡ bytesAt list place
-  unfolding bytesAt
-  two-taken list place h = rw (drop-cons list place 0 (omega arith), drop-cons list (suc place) 0 (omega arith))
 
   the-witness : Witnessed S cores cuts
   unfolding witnessOf partSaid byAnswer
@@ -119,34 +118,27 @@ module _ (text : List ℕ) (model : textOutcome text ≡ Accepted) where
   front-is which lent sets e q =
       ap (take (2 * sets)) q ∙ take-at (bytesOf (listIn which text)) _ (2 * sets) (omega (arith, e, length-bytesOf (listIn which text)))
 
-  wrote : (which : WhichList) (list : List ℕ) → WroteList textByAnswers which text list → list ≡ bytesOf (listIn which text)
-  unfolding textByAnswers inRattle
-  wrote which list r = go (decLt (length (r .lent)) (2 * length (listIn which text)))
+  -- Where counts are told apart from each other and from a list that does not fit, what a call wrote is the list.
+  wrote : {J L M : Type 0} (w : TextTelling J L M)
+      → ((which : WhichList) (lent : List ℕ) → GivesList (w .calls) (listIn which text) lent (w .list which text lent) (listBytes which text lent))
+      → ((n m : ℕ) → w .calls .count n ≡ w .calls .count m → n ≡ m) → ((n : ℕ) → ¬ (w .calls .short ≡ w .calls .count n))
+      → (which : WhichList) (list : List ℕ) → WroteList w which text list → list ≡ bytesOf (listIn which text)
+  wrote w gives same other which list r = go (decLt (length (r .lent)) (2 * length (listIn which text)))
     where
-      g : GivesList inRattle (listIn which text) (r .lent) (listAnswer which text (r .lent)) (listBytes which text (r .lent))
-      g = list-given text model which (r .lent)
-
-      counted : {n m : ℕ} → Count n ≡ Count m → n ≡ m
-      counted e = cc
-
       go : Dec (length (r .lent) < 2 * length (listIn which text)) → list ≡ bytesOf (listIn which text)
       go (no n) =
           let h : 2 * length (listIn which text) ≤ length (r .lent) = omega arith in
-          r .front ∙ front-is which (r .lent) (r .sets) (counted (sym (r .counted) ∙ g .count h)) (g .written h)
-      go (yes h) = let e = sym (g .refused h) ∙ r .counted in let z : _≡_ {A = ℕ} 0 1 = cc in absurd (omega arith)
+          let g = gives which (r .lent) in
+          r .front ∙ front-is which (r .lent) (r .sets) (same _ _ (sym (r .counted) ∙ g .count h)) (g .written h)
+      go (yes h) = absurd (other (r .sets) (sym (gives which (r .lent) .refused h) ∙ r .counted))
+
+  answer-wrote : (which : WhichList) (list : List ℕ) → WroteList textByAnswers which text list → list ≡ bytesOf (listIn which text)
+  unfolding textByAnswers inRattle
+  answer-wrote = wrote textByAnswers (list-given text model) (λ n m e. cc) (λ n e. let z : _≡_ {A = ℕ} 0 1 = cc in omega arith)
 
   host-wrote : (which : WhichList) (list : List ℕ) → WroteList textByHosts which text list → list ≡ bytesOf (listIn which text)
   unfolding textByHosts forHosts
-  host-wrote which list r = go (decLt (length (r .lent)) (2 * length (listIn which text)))
-    where
-      g : GivesList forHosts (listIn which text) (r .lent) (packed (listParts (listAnswer which text (r .lent)))) (listBytes which text (r .lent))
-      g = list-packed text model which (r .lent)
-
-      go : Dec (length (r .lent) < 2 * length (listIn which text)) → list ≡ bytesOf (listIn which text)
-      go (no n) =
-          let h : 2 * length (listIn which text) ≤ length (r .lent) = omega arith in
-          r .front ∙ front-is which (r .lent) (r .sets) (omega (arith, r .counted, g .count h)) (g .written h)
-      go (yes h) = absurd (omega (arith, g .refused h, r .counted))
+  host-wrote = wrote textByHosts (list-packed text model) (λ n m e. omega arith) (λ n e. omega arith)
 
   module _ (S : ℕ) (rules : S < 2 ^ rulesIn text) where
     held-judged : judgeIn text S ≡ true → (lent : List ℕ) → judgeAnswer text S lent ≡ Holds
@@ -171,7 +163,7 @@ module _ (text : List ℕ) (model : textOutcome text ≡ Accepted) where
         → Agrees textByAnswers byAnswer text S (sufficesAnswer S cores cuts)
     unfolding textByAnswers inRattle byAnswer
     calls-agree cores cuts a b =
-        rw (wrote Cores cores a, wrote Cuts cuts b)
+        rw (answer-wrote Cores cores a, answer-wrote Cuts cuts b)
         (let said = answer-said S (bytesOf (listIn Cores text)) (bytesOf (listIn Cuts text)) in
         agreed textByAnswers byAnswer text S _
         (λ n l e. let z : _≡_ {A = ℕ} 0 1 = cc in omega arith)

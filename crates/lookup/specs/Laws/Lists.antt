@@ -19,7 +19,7 @@ use Rattle.lookup.specs.declared.search.Found.{Found}
 use Rattle.lookup.specs.declared.search.Found.the-variants.{At, Nowhere}
 use Rattle.lookup.specs.Search.{firstIn, setAtByte, Stands, StandsFirst, NoneStands}
 use Rattle.lookup.specs.Suffices.{SufficesTelling, EvenCounts, SaidOf}
-use Rattle.lookup.specs.Laws.Search.{found-iff, nowhere-iff}
+use Rattle.lookup.specs.Laws.Search.{behind, ahead-of, found-iff, nowhere-iff}
 
 -- ---- where a listed set stands
 
@@ -29,16 +29,13 @@ unfolding setAtByte bytesOf
 two-bytes S l h = omega arith
 
 module _ (P : ℕ → Type 0) where
-  behind : (S : ℕ) (l : List ℕ) (place : ℕ) → Stands P (bytesOf l) place → Stands P (bytesOf (S ∷ l)) (suc (suc place))
-  unfolding setAtByte bytesOf
-  behind S l place s = record { even = omega (arith, s .even); within = omega (arith, s .within); itself = s .itself }
-
   stands : (l : List ℕ) → ((C : ℕ) → C ∈ l → C < 65536) → (C : ℕ) → C ∈ l → P C → (place : ℕ) × Stands P (bytesOf l) place
+  unfolding bytesOf
   stands (S ∷ l) small C (List·Memᴰ·head e) p =
       (0, record { even = refl; within = omega (arith, length-bytesOf (S ∷ l)); itself = rw (two-bytes S l (small S (List·Memᴰ·head refl)), sym e) p })
   stands (S ∷ l) small C (List·Memᴰ·tail m) p =
       let r = stands l (λ D n. small D (List·Memᴰ·tail n)) C m p in
-      (suc (suc (r .0)), behind S l (r .0) (r .1))
+      (suc (suc (r .0)), behind (r .1))
 
   -- What stands there is a listed set.
   listed : (l : List ℕ) → ((C : ℕ) → C ∈ l → C < 65536) → (place : ℕ) → Stands P (bytesOf l) place → (C : ℕ) × (C ∈ l) × P C
@@ -47,7 +44,7 @@ module _ (P : ℕ → Type 0) where
   listed (S ∷ l) small zero s = (S, List·Memᴰ·head refl, rw (two-bytes S l (small S (List·Memᴰ·head refl))) at (s .itself))
   listed (S ∷ l) small (suc zero) s = absurd (omega (arith, s .even))
   listed (S ∷ l) small (suc (suc place)) s =
-      let r = listed l (λ D n. small D (List·Memᴰ·tail n)) place (record { even = omega (arith, s .even); within = omega (arith, s .within); itself = s .itself }) in
+      let r = listed l (λ D n. small D (List·Memᴰ·tail n)) place (ahead-of s) in
       (r .0, List·Memᴰ·tail (r .1), r .2)
 
 -- Where a set that is P stands, there is a first one.

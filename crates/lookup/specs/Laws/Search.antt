@@ -55,16 +55,21 @@ one-place {place = place} {other = other} s t =
     let b : ¬ (other < place) = λ l. s .noneBefore other l (t .there) in
     omega arith
 
+-- Behind a set, another stands two places further on than it does without it.
+module _ {P : ℕ → Type 0} {low high : ℕ} {rest : List ℕ} {place : ℕ} where
+  pub behind : Stands P rest place → Stands P (low ∷ high ∷ rest) (suc (suc place))
+  unfolding setAtByte
+  behind s = record { even = omega (arith, s .even); within = omega (arith, s .within); itself = s .itself }
+
+  pub ahead-of : Stands P (low ∷ high ∷ rest) (suc (suc place)) → Stands P rest place
+  unfolding setAtByte
+  ahead-of s = record { even = omega (arith, s .even); within = omega (arith, s .within); itself = s .itself }
+
 module _ (q : ℕ → Bool) (P : ℕ → Type 0) (means : (S : ℕ) → (q S ≡ true) ↔ P S) where
   -- What is found in the bytes of a list from place n on.
   data Tells (n : ℕ) (list : List ℕ) (f : Found) : Type 0 where
     told : (place : ℕ) → f ≡ At (n + place) → StandsFirst P list place → Tells n list f
     none : f ≡ Nowhere → NoneStands P list → Tells n list f
-
-  -- Behind the first set, a set stands two places further on.
-  behind : {low high : ℕ} {rest : List ℕ} {place : ℕ} → Stands P rest place → Stands P (low ∷ high ∷ rest) (suc (suc place))
-  unfolding setAtByte
-  behind s = record { even = omega (arith, s .even); within = omega (arith, s .within); itself = s .itself }
 
   -- A list whose first set is not P.
   module _ {low high : ℕ} {rest : List ℕ} (passed : q (low + 256 * high) ≡ false) where
@@ -73,7 +78,7 @@ module _ (q : ℕ → Bool) (P : ℕ → Type 0) (means : (S : ℕ) → (q S ≡
     ahead zero s = absurd (true≢false (sym (means (low + 256 * high) .1 (s .itself)) ∙ passed))
     ahead (suc zero) s = absurd (omega (arith, s .even))
     ahead (suc (suc before)) s =
-        (before, refl, record { even = omega (arith, s .even); within = omega (arith, s .within); itself = s .itself })
+        (before, refl, ahead-of s)
 
     further : (n : ℕ) (f : Found) → Tells (suc (suc n)) rest f → Tells n (low ∷ high ∷ rest) f
     further n f (told place e s) =

@@ -6,10 +6,9 @@ use mathlib.Core.Logic.{_↔_}
 use mathlib.Core.Bool.{Bool, true, false, cond, _||_}
 use mathlib.Core.List.{List}
 use native.Mathlib.Omega.{arith}
-use borrow.Author.Tests.{eqb-true, eqb-false, le-leb}
+use borrow.Author.Tests.{eqb-true, eqb-false}
 use lib.Dec.{eqb}
 use lib.ListN.{length}
-use Rattle.slices.specs.Address.{bytesOn, restAddress}
 use Rattle.sets.specs.Sets.{_⊑_, Shares}
 use Rattle.sets.specs.Laws.Sets.{part-iff, apart-tells}
 use Rattle.lookup.specs.declared.answer.SufficesAnswer.{SufficesAnswer}
@@ -18,7 +17,7 @@ use Rattle.lookup.specs.declared.search.Fit.the-variants.{Inside, Apart}
 use Rattle.lookup.specs.declared.search.Found.{Found}
 use Rattle.lookup.specs.declared.search.Found.the-variants.{At, Nowhere}
 use Rattle.lookup.specs.Search.{firstIn, fits, StandsFirst, NoneStands}
-use Rattle.lookup.specs.Suffices.{coreSaid, cutSaid, lookedUp, oddCount, sufficesAnswer, SufficesTelling, byAnswer, EvenCounts, SaidOf}
+use Rattle.lookup.specs.Suffices.{saidBy, lookedUp, oddCount, sufficesAnswer, SufficesTelling, byAnswer, EvenCounts, SaidOf}
 use Rattle.lookup.specs.Laws.Search.{found-iff, nowhere-iff, one-place}
 
 -- ---- the four ways
@@ -34,22 +33,19 @@ pub data Ways {A : Type 0} (t : SufficesTelling A) (S : ℕ) (cores cuts : List 
 
 module _ (S : ℕ) (cores cuts : List ℕ) where
   looked-ways : EvenCounts cores cuts → sufficesAnswer S cores cuts ≡ lookedUp S cores cuts → Ways byAnswer S cores cuts (sufficesAnswer S cores cuts)
-  unfolding byAnswer lookedUp coreSaid cutSaid fits
+  unfolding byAnswer lookedUp saidBy fits
   looked-ways even e = by-core (firstIn (fits Inside S) cores) refl (firstIn (fits Apart S) cuts) refl
     where
-      said : Found → Found → SufficesAnswer
-      said core cut = coreSaid core (cutSaid cut)
-
       by-core : (core : Found) → firstIn (fits Inside S) cores ≡ core → (cut : Found) → firstIn (fits Apart S) cuts ≡ cut
           → Ways byAnswer S cores cuts (sufficesAnswer S cores cuts)
       by-core (At place) p cut q =
-          inside-way even place (found-iff _ _ (λ C. part-iff C S) cores place .0 p) (e ∙ ap₂ said p q)
+          inside-way even place (found-iff _ _ (λ C. part-iff C S) cores place .0 p) (e ∙ ap₂ saidBy p q)
       by-core Nowhere p (At place) q =
           apart-way even (nowhere-iff _ _ (λ C. part-iff C S) cores .0 p) place (found-iff _ _ (λ C. apart-tells C S) cuts place .0 q)
-          (e ∙ ap₂ said p q)
+          (e ∙ ap₂ saidBy p q)
       by-core Nowhere p Nowhere q =
           unlisted-way even (nowhere-iff _ _ (λ C. part-iff C S) cores .0 p) (nowhere-iff _ _ (λ C. apart-tells C S) cuts .0 q)
-          (e ∙ ap₂ said p q)
+          (e ∙ ap₂ saidBy p q)
 
   pub ways : Ways byAnswer S cores cuts (sufficesAnswer S cores cuts)
   unfolding sufficesAnswer oddCount byAnswer
@@ -133,17 +129,3 @@ unfolding byAnswer codeOf placeOf
 answer-said S cores cuts = said-of {code = codeOf} {place = placeOf}
     (record { odd = refl; inside = λ p. refl; apart = λ p. refl; unlisted = refl; insideAt = λ p. refl; apartAt = λ p. refl })
     (ways S cores cuts)
-
--- The witness stands within the list that holds it, so what follows its place begins there.
-module _ (S : ℕ) (cores cuts : List ℕ) (place : ℕ) where
-  pub inside-address : sufficesAnswer S cores cuts ≡ CoreInside place → (address : ℕ × ℕ) → restAddress address cores place ≡ bytesOn address place
-  unfolding byAnswer restAddress
-  inside-address e address =
-      let within = answer-said S cores cuts .inside place .0 e .1 .there .within in
-      ap (λ b. cond b (bytesOn address place) address) (le-leb place (length cores) (omega (arith, within)))
-
-  pub apart-address : sufficesAnswer S cores cuts ≡ CutApart place → (address : ℕ × ℕ) → restAddress address cuts place ≡ bytesOn address place
-  unfolding byAnswer restAddress
-  apart-address e address =
-      let within = answer-said S cores cuts .apart place .0 e .2 .there .within in
-      ap (λ b. cond b (bytesOn address place) address) (le-leb place (length cuts) (omega (arith, within)))

@@ -47,6 +47,6 @@ count-line-spec =
     (λ c. missing _ _ _ (c .before .before .end-of .ensures) (c .enum-told .given .1))
     (λ c κs. search needs)
     (λ c κs. search needs)
-    (λ c. let p = c .before in at-fault (ended-of (p .before .before .before)) _ (p .before .part .ensures) (p .count-in .ensures) (c .if1 .taken))
+    (λ c. let p = c .before in at-fault (ended-of (p .before .before .before)) _ (p .before .part .ensures .0) (p .count-in .ensures) (c .if1 .taken))
     (λ c. omega (arith, end-within (ended-of (c .before .before .before .before))))
-    (λ c. let p = c .before in read (ended-of (p .before .before .before)) _ (p .before .part .ensures) (p .count-in .ensures) (c .if1 .left)))
+    (λ c. let p = c .before in read (ended-of (p .before .before .before)) _ (p .before .part .ensures .0) (p .count-in .ensures) (c .if1 .left)))

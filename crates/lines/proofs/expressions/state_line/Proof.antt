@@ -45,6 +45,6 @@ state-line-spec =
     (λ c. no-line (Fault 1) _ _ _ (c .before .before .end-of .ensures) (c .enum-told .given .1))
     (λ c κs. search needs)
     (λ c κs. search needs)
-    (λ c. let p = c .before in at-fault (ended-of (p .before .before .before)) _ (p .before .part .ensures) (p .fault-in .ensures) (c .if1 .taken))
+    (λ c. let p = c .before in at-fault (ended-of (p .before .before .before)) _ (p .before .part .ensures .0) (p .fault-in .ensures) (c .if1 .taken))
     (λ c. omega (arith, end-within (ended-of (c .before .before .before .before))))
-    (λ c. let p = c .before in read (ended-of (p .before .before .before)) _ (p .before .part .ensures) (p .fault-in .ensures) (c .if1 .left)))
+    (λ c. let p = c .before in read (ended-of (p .before .before .before)) _ (p .before .part .ensures .0) (p .fault-in .ensures) (c .if1 .left)))

@@ -21,4 +21,4 @@ name-of-spec =
     (λ c κs. search needs)
     (λ c.
     let a = c .before .before .before .args in
-    c .part .ensures ∙ ap (λ (n : ℕ). take (n - getD (a .t2) (a .i) 0) (drop (getD (a .t2) (a .i) 0) (a .text .now))) (c .before .one-less .ensures)))
+    c .part .ensures .0 ∙ ap (λ (n : ℕ). take (n - getD (a .t2) (a .i) 0) (drop (getD (a .t2) (a .i) 0) (a .text .now))) (c .before .one-less .ensures)))

@@ -100,7 +100,7 @@ module _ (p : tie.After-is-named) where
   valued : Valued s end v k (p .is-named .result)
   valued = record {
     line = ended (end-of .before .before .end-of .ensures) (end-of .end .given .1);
-    value = p .before .before .before .part .ensures;
+    value = p .before .before .before .part .ensures .0;
     name = p .before .before .prefix-of .ensures;
     proper = named-of v (p .before .before .prefix-of .ensures) (p .before .byte-at .ensures) (p .is-named .ensures);
     short = λ good.

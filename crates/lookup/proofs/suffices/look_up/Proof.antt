@@ -3,27 +3,21 @@ use Prim.Native.Nat.{ℕ}
 use mathlib.Core.Path.{_≡_, sym, ap, ap₂, _∙_}
 use mathlib.Core.List.{List}
 use borrow.Author.Needs.{needs}
-use Rattle.lookup.specs.declared.answer.SufficesAnswer.{SufficesAnswer}
 use Rattle.lookup.specs.declared.answer.SufficesAnswer.the-variants.{CoreInside}
 use Rattle.lookup.specs.declared.search.Fit.the-variants.{Inside, Apart}
-use Rattle.lookup.specs.declared.search.Found.{Found}
 use Rattle.lookup.specs.declared.search.Found.the-variants.{At}
 use Rattle.lookup.specs.Search.{firstIn, fits}
-use Rattle.lookup.specs.Suffices.{coreSaid, cutSaid, lookedUp}
+use Rattle.lookup.specs.Suffices.{saidBy, lookedUp}
 use Rattle.lookup.proofs.suffices.look_up.Statement.{statement}
 use Rattle.lookup.proofs.suffices.look_up.Tie as tie
 
--- what is said where the two searches found so much
-said : Found → Found → SufficesAnswer
-said core cut = coreSaid core (cutSaid cut)
-
 -- no cut is looked for where a core was found
 stopped : (S : ℕ) (cores cuts : List ℕ) (place : ℕ) → firstIn (fits Inside S) cores ≡ At place → lookedUp S cores cuts ≡ CoreInside place
-unfolding lookedUp coreSaid
-stopped S cores cuts place e = ap (λ core. coreSaid core (cutSaid (firstIn (fits Apart S) cuts))) e
+unfolding lookedUp saidBy
+stopped S cores cuts place e = ap (λ core. saidBy core (firstIn (fits Apart S) cuts)) e
 
 pub look-up-spec : {M : Type 1} → statement M
-unfolding said lookedUp coreSaid cutSaid
+unfolding lookedUp saidBy
 look-up-spec =
     tie.close
     (tie.spec
@@ -33,8 +27,8 @@ look-up-spec =
     (λ c κs. search needs)
     (λ c. search needs)
     (λ c. search needs)
-    (λ c. sym (ap₂ said (sym (c .before .before .before .before .before .before .first-fit .ensures) ∙ c .before .before .before .before .enum-told .given .1) (sym (c .before .before .before .first-fit2 .ensures) ∙ c .before .place .given .1)))
-    (λ c. sym (ap₂ said (sym (c .before .before .before .before .before .first-fit .ensures) ∙ c .before .before .before .enum-told .given .1) (sym (c .before .before .first-fit2 .ensures) ∙ c .enum-told2 .given .1)))
+    (λ c. sym (ap₂ saidBy (sym (c .before .before .before .before .before .before .first-fit .ensures) ∙ c .before .before .before .before .enum-told .given .1) (sym (c .before .before .before .first-fit2 .ensures) ∙ c .before .place .given .1)))
+    (λ c. sym (ap₂ saidBy (sym (c .before .before .before .before .before .first-fit .ensures) ∙ c .before .before .before .enum-told .given .1) (sym (c .before .before .first-fit2 .ensures) ∙ c .enum-told2 .given .1)))
     (λ c.
     let a = c .before .before .before .before .before .before .args in
     sym (stopped (a .set) (a .cores .now) (a .cuts .now) _ (sym (c .before .before .before .first-fit .ensures) ∙ c .before .core .given .1))))
