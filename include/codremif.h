@@ -4,13 +4,13 @@
  * The manual for a C programmer. docs/FORMAT.md gives the meanings, with examples; this page
  * repeats what a host needs. It is C99, and C++98 or later.
  *
- * A model is a text: named Boolean rules over one second and the next, and one property. Six
- * calls read it:
+ * A model is a text: named Boolean rules over one second and the next, and one to four
+ * properties. Six calls read it:
  *
- *   codremif_judge   does a set of rules keep the property in every state that can be reached?
+ *   codremif_judge   does a set of rules keep every property in every state that can be reached?
  *                    If not: a shortest run to a bad state
  *   codremif_cores   every core: a set of rules that holds and has no proper part that holds
- *   codremif_cuts    every cut: a set of rules whose removal breaks the property, while no
+ *   codremif_cuts    every cut: a set of rules whose removal leaves a broken set, while no
  *                    proper part of it does that
  *   codremif_must    MUST: the rules that all cores have in common
  *   codremif_may     MAY: the rules that some core has, but not all cores have
@@ -57,7 +57,7 @@
  *   vars=N                one digit, 1 to 7: the number of bits in a state
  *   rules=R               1 to 16, no leading zero: the number of rules
  *   init=EXPRESSION       the start states
- *   prop=EXPRESSION       the property
+ *   prop=EXPRESSION       1 to 4 such lines: the properties, each the states that are good by it
  *   rule=NAME:EXPRESSION  R such lines; a name is 1 to 8 bytes from a-z and 0-9, and no two rules
  *                         have the same
  *
@@ -65,6 +65,10 @@
  *   now); in rules also the first N of A to G (the same bits one second later); ! takes one
  *   operand; &, |, > (implies) and = (alike) take two. The text is no C string: a byte 0 at its
  *   end is refused by 9.
+ *
+ *   Line 4 is due as a property. The line after a property is one too if it starts with `prop=`,
+ *   and else the first rule line is due. After four properties it is due in any case, so a fifth
+ *   `prop=` line is refused by 1.
  *
  *   Reading takes time linear in the text's length. No accepted text has more than
  *   CODREMIF_TEXT_BYTES, so a host may turn a longer one away before it asks.
@@ -75,10 +79,17 @@
  *   A set of rules is a number from 0 to 2^R - 1: the first rule in the text weighs 1, the next
  *   2, and so on. Set 0 is empty, the full set is 2^R - 1 (codremif_full_set).
  *   A trace is one byte for each state, from a start state to a bad one, both included: 1 to 2^N
- *   bytes. It is the shortest run that ends in a bad state; of several, the one with the smaller
- *   state number at the first place where they differ.
+ *   bytes. A state is bad if it breaks some property. The trace is the shortest run that ends in a
+ *   bad state; of several, the one with the smaller state number at the first place where they
+ *   differ.
  *   A list (of cores or of cuts) has two bytes for each set, low byte first (codremif_set_at
  *   reads one), fewer rules first, then the smaller set number first. Each set stands in it once.
+ *
+ * Properties. All answers are for the properties of the text jointly. A set holds exactly where it
+ *   holds for each of them, and their order makes no difference. To ask by one property, hand over
+ *   a text with this property line alone. The joint trace is the first of the traces by each
+ *   property, in the order above: shorter ones first. The joint cores are those unions of one core
+ *   by each property that have no other such union as a proper part.
  *
  * Looking a set up. A listed core is inside a set if each of its rules is in the set. A listed cut
  *   is apart from a set if none of its rules is in the set. The core list is searched first, for
@@ -95,11 +106,11 @@
  *   cut it is apart from every set.
  *
  * Kinds. Each rule is in exactly one of MUST, MAY and the irrelevant rules. Where some rule is in
- *   a core, the model without its irrelevant rules has the same cores by name. Where the property
- *   holds, one rule outside MUST may get any other legal expression, and it still holds; with
- *   two changed at once it need not.
+ *   a core, the model without its irrelevant rules has the same cores by name. Where the
+ *   properties hold, one rule outside MUST may get any other legal expression, and they still
+ *   hold; with two changed at once they need not.
  *
- * Edges. The property holds if the full set does, and that is exactly when there is a core:
+ * Edges. The properties hold if the full set does, and that is exactly when there is a core:
  *   codremif_count of the cores is then 1 or more. If the full set is broken, there is no core,
  *   and the one cut is set 0. If set 0 holds, it is the one core, and there is no cut. In both
  *   cases MUST and MAY are 0, and every rule is irrelevant: these three do not say which it is.
@@ -181,12 +192,15 @@ extern "C" {
 #endif
 
 /* The version that this header belongs to: major * 1,000,000 + minor * 1,000 + patch. */
-#define CODREMIF_VERSION 1002000
-#define CODREMIF_VERSION_STRING "1.2.0"
+#define CODREMIF_VERSION 1003000
+#define CODREMIF_VERSION_STRING "1.3.0"
 
-/* An accepted text has at most so many bytes: two counts, `init`, `prop` and 16 rules at their
- * longest. */
-#define CODREMIF_TEXT_BYTES 1420
+/* An accepted text has at most so many bytes: two counts, `init`, four properties and 16 rules at
+ * their longest. */
+#define CODREMIF_TEXT_BYTES 1630
+
+/* An accepted text has at most so many properties. */
+#define CODREMIF_PROPERTIES 4
 
 /* An accepted text has at most so many rules. */
 #define CODREMIF_RULES 16
@@ -245,7 +259,7 @@ enum codremif_refusal {
     CODREMIF_LETTER = 7,
     /* It isn't exactly one expression. */
     CODREMIF_NOT_ONE = 8,
-    /* Bytes follow the last rule line (line R + 5). */
+    /* Bytes follow the last rule line (the line after it). */
     CODREMIF_BYTES_FOLLOW = 9,
     /* The judged set is 2^R or more (line 0). */
     CODREMIF_NO_SUCH_SET = 10,
@@ -438,7 +452,7 @@ static inline const char *codremif_words(unsigned number)
     case CODREMIF_LETTER: return "It has a letter beyond the first N, or a capital letter in "
         "`init` or `prop`.";
     case CODREMIF_NOT_ONE: return "It isn't exactly one expression.";
-    case CODREMIF_BYTES_FOLLOW: return "Bytes follow the last rule line (line R + 5).";
+    case CODREMIF_BYTES_FOLLOW: return "Bytes follow the last rule line (the line after it).";
     case CODREMIF_NO_SUCH_SET: return "The judged set is 2^R or more (line 0).";
     case CODREMIF_TOO_FEW_BYTES: return "The lent bytes are fewer than this answer's trace or "
         "list needs (line 0).";

@@ -100,6 +100,9 @@ static const char chain[] = "vars=2\nrules=2\ninit=&!a!b\nprop=!b\nrule=same:=Aa
 static const char quiet[] = "vars=1\nrules=1\ninit=1\nprop=1\nrule=any:1\n";
 static const char battery[] = "vars=4\nrules=5\ninit=!c\nprop=>c&ab\nrule=motion:>CA\nrule=quiet:>!a!C\nrule=power:>CB\nrule=double:>C&aA\n"
                               "rule=lamp:=DC\n";
+static const char both[] = "vars=2\nrules=2\ninit=&!a!b\nprop=!a\nprop=!b\nrule=ra:=Aa\nrule=rb:=Bb\n";
+static const char shared[] = "vars=2\nrules=3\ninit=&!a!b\nprop=!a\nprop=!b\nprop=!&ab\nprop=1\nrule=ra:!A\nrule=rb:!B\nrule=none:!|AB\n";
+static const char counter[] = "vars=2\nrules=2\ninit=&!a!b\nprop=!&ab\nprop=1\nprop=!b\nprop=!&ab\nrule=low:=A!a\nrule=high:=B!=ba\n";
 static const char stale[] = "vars=4\nrules=2\ninit=&!a&!b&!c!d\nprop=>c&ab\nrule=mem:=Da\nrule=vote:>C&BD\n";
 
 /* Whether MUST, MAY and the irrelevant rules are these sets. */
@@ -143,6 +146,8 @@ static void test_refusals(void)
     check(words, "each of them has words, and no other number has");
 }
 
+#define BYTES_63 "!!!!!!!!!!!!!!!!!!!!!!!!!!!!!!!!!!!!!!!!!!!!!!!!!!!!!!!!!!!!!!!"
+
 static void test_constants(void)
 {
     unsigned long ways = 1;
@@ -150,15 +155,20 @@ static void test_constants(void)
         ways = ways * (16 - i + 1) / i;
     check(CODREMIF_LIST_SETS == ways && CODREMIF_LIST_BYTES == 2 * ways, "the longest list is 16 over 8 sets");
     check(CODREMIF_TRACE_BYTES == 1 << 7, "the longest trace is each of 2^7 states");
-    check(CODREMIF_TEXT_BYTES == 7 + 9 + 2 * (5 + 64 + 1) + CODREMIF_RULES * (5 + CODREMIF_NAME_BYTES + 1 + 64 + 1),
+    check(CODREMIF_TEXT_BYTES == 1630 && CODREMIF_PROPERTIES == 4, "the longest text has 1,630 bytes and four properties");
+    check(CODREMIF_TEXT_BYTES == 7 + 9 + (1 + CODREMIF_PROPERTIES) * (5 + 64 + 1) + CODREMIF_RULES * (5 + CODREMIF_NAME_BYTES + 1 + 64 + 1),
           "the longest text is all lines at their longest");
-    struct model model;
-    model_wide(&model, "!!!!!!!!!!!!!!!!!!!!!!!!!!!!!!!!!!!!!!!!!!!!!!!!!!!!!!!!!!!!!!!a",
-               "!!!!!!!!!!!!!!!!!!!!!!!!!!!!!!!!!!!!!!!!!!!!!!!!!!!!!!!!!!!!!!!#");
-    struct text text = text_of(model.text, model.length);
-    check(model.length == CODREMIF_TEXT_BYTES && codremif_number(codremif_must(text.bytes, text.length)) == 0,
-          "a text of CODREMIF_TEXT_BYTES is accepted");
-    free(text.bytes);
+    const uint64_t answers[] = {0, 0, 0, 0, 1 + 256 * 8};
+    for (unsigned properties = 1; properties <= 5; properties++) {
+        struct model model;
+        char what[96];
+        model_wide(&model, properties, BYTES_63 "a", BYTES_63 "#");
+        struct text text = text_of(model.text, model.length);
+        snprintf(what, sizeof what, "all lines at their longest, properties: %u; it is %s", properties, properties <= 4 ? "accepted" : "refused");
+        check(model.length == CODREMIF_TEXT_BYTES - 4 * 70 + 70 * properties && codremif_must(text.bytes, text.length) == answers[properties - 1],
+              what);
+        free(text.bytes);
+    }
 }
 
 static void test_tremor(void)
@@ -196,6 +206,35 @@ static void test_other_models(void)
     free(text.bytes);
 }
 
+/* Two properties, and four. The answers are for all of them jointly. */
+static void test_properties(void)
+{
+    struct text text = text_of(both, sizeof both - 1);
+    check(judged(text, 0, 4, 2 * 65536, (const uint8_t[]){0, 1}, 2), "two properties: set 0 breaks both, the trace is the first of 0, 1 and 0, 2");
+    check(judged(text, 1, 4, 2 * 65536, (const uint8_t[]){0, 2}, 2), "two properties: set 1 breaks the second, with the trace 0, 2");
+    check(judged(text, 2, 4, 2 * 65536, (const uint8_t[]){0, 1}, 2), "two properties: set 2 breaks the first, with the trace 0, 1");
+    check(judged(text, 3, 4, TWO_40, NULL, 0), "two properties: set 3 holds for each");
+    check(judged(text, 4, 4, 10, NULL, 0) && judged(text, 0, 1, 11, NULL, 0), "two properties: set 4 is refused by 10, one byte for a trace by 11");
+    check(listed(codremif_cores, text, 8, 65536, (const uint8_t[]){3, 0}, 2) &&
+              listed(codremif_cuts, text, 8, 2 * 65536, (const uint8_t[]){1, 0, 2, 0}, 4) && has_kinds(text, 3, 0, 0),
+          "two properties: the core is 3, the cuts are 1 and 2, MUST is 3");
+    free(text.bytes);
+    text = text_of(shared, sizeof shared - 1);
+    check(listed(codremif_cores, text, 8, 2 * 65536, (const uint8_t[]){4, 0, 3, 0}, 4) &&
+              listed(codremif_cuts, text, 8, 2 * 65536, (const uint8_t[]){5, 0, 6, 0}, 4) && has_kinds(text, 0, 7, 0),
+          "four properties: the cores are 4, 3, and no union that has 4 as a proper part; the cuts are 5, 6");
+    free(text.bytes);
+    text = text_of(counter, sizeof counter - 1);
+    check(judged(text, 3, 4, 3 * 65536, (const uint8_t[]){0, 1, 2}, 3),
+          "four properties: the trace is 0, 1, 2, by the third, and not 0, 1, 2, 3, by the first");
+    check(judged(text, 1, 4, 2 * 65536, (const uint8_t[]){0, 3}, 2) && judged(text, 2, 4, 3 * 65536, (const uint8_t[]){0, 1, 2}, 3),
+          "four properties: set 1 has the trace 0, 3, and set 2 has 0, 1, 2");
+    check(listed(codremif_cores, text, 0, 0, NULL, 0) && listed(codremif_cuts, text, 2, 65536, (const uint8_t[]){0, 0}, 2) &&
+              has_kinds(text, 0, 0, 3),
+          "four properties, two of them broken: there is no core, and the cut is 0");
+    free(text.bytes);
+}
+
 /* A text in a block of its own length has these kinds. */
 static void check_kinds(const char *bytes, size_t length, uint64_t must, uint64_t may, uint64_t irrelevant, const char *what)
 {
@@ -210,9 +249,9 @@ static void test_kinds(void)
     check_kinds(battery, sizeof battery - 1, 4, 9, 18, "all kinds: MUST is power, MAY motion and double, irrelevant quiet and lamp");
     check_kinds(quiet, sizeof quiet - 1, 0, 0, 1, "set 0 is the one core: every rule is irrelevant");
     check_kinds(stale, sizeof stale - 1, 0, 0, 3, "no core: every rule is irrelevant");
-    model_wide(&model, "!a", "1");
+    model_wide(&model, 1, "!a", "1");
     check_kinds(model.text, model.length, 0, 0, 0xFFFF, "no core and sixteen rules: every rule is irrelevant");
-    model_wide(&model, "!a", ">Aa");
+    model_wide(&model, 4, "!a", ">Aa");
     check_kinds(model.text, model.length, 0, 0xFFFF, 0, "sixteen rules alike, each a core alone: every rule is in MAY");
     model_begin(&model, 7, 16, "!a", "!a");
     for (unsigned i = 0; i < 16; i++)
@@ -228,7 +267,7 @@ struct refused {
 
 #define COUNTS "vars=1\nrules=1\n"
 #define STATES COUNTS "init=a\nprop=a\n"
-#define BYTES_64 "!!!!!!!!!!!!!!!!!!!!!!!!!!!!!!!!!!!!!!!!!!!!!!!!!!!!!!!!!!!!!!!!"
+#define FOUR STATES "prop=a\nprop=a\nprop=a\n"
 
 static const struct refused refused_texts[] = {
     {"", 1, 1},
@@ -240,7 +279,7 @@ static const struct refused refused_texts[] = {
     {"vars=1\nrules=17\n", 2, 2},
     {"vars=1\nrules=16\n", 1, 3},
     {COUNTS "init=\n", 5, 3},
-    {COUNTS "init=" BYTES_64 "a\n", 5, 3},
+    {COUNTS "init=" BYTES_63 "!a\n", 5, 3},
     {COUNTS "init=x\n", 6, 3},
     {COUNTS "init=A\n", 7, 3},
     {COUNTS "init=b\n", 7, 3},
@@ -255,6 +294,25 @@ static const struct refused refused_texts[] = {
     {"vars=1\nrules=2\ninit=a\nprop=a\nrule=a:1\nrule=a:1\n", 4, 6},
     {STATES "rule=a:1\nrule=b:1\n", 9, 6},
     {STATES "rule=a:1\n\n", 9, 6},
+    {COUNTS "init=a\nrule=a:1\n", 1, 4},
+    {COUNTS "prop=a\ninit=a\nrule=a:1\n", 1, 3},
+    {COUNTS "init=a\nprop=a", 1, 4},
+    {STATES "prop=a", 1, 5},
+    {STATES "prop=\n", 5, 5},
+    {STATES "prop=A\n", 7, 5},
+    {STATES "prop\n", 1, 5},
+    {STATES "prop=a\nprop=x\n", 6, 6},
+    {STATES "prop=a\nprop=a\nprop=aa\n", 8, 7},
+    {STATES "prop=a\nprop=a\nprop=a", 1, 7},
+    {FOUR, 1, 8},
+    {FOUR "prop=a\nrule=a:1\n", 1, 8},
+    {FOUR "prop=A\n", 1, 8},
+    {FOUR "prop=a", 1, 8},
+    {"vars=1\nrules=2\ninit=a\nprop=a\nrule=a:1\nprop=a\nrule=b:1\n", 1, 6},
+    {STATES "rule=a:1\nprop=a\n", 9, 6},
+    {STATES "prop=a\nrule=a:1\n\n", 9, 7},
+    {STATES "prop=a\nprop=a\nrule=a:1\nrule=b:1\n", 9, 8},
+    {FOUR "rule=a:1\nr", 9, 9},
 };
 
 /* Whether every call refuses the text by this number and line, with nothing beside them, and leaves each lent byte as it was. */
@@ -397,7 +455,7 @@ static void ask_all(const struct model *model, struct answers *answers)
     answers->witness = codremif_witness(2, answers->core_sets, cores_len, answers->cut_sets, cuts_len);
 }
 
-#define MODELS 3
+#define MODELS 4
 #define THREADS 4
 #define ROUNDS 20
 
@@ -426,6 +484,7 @@ static void test_threads(void)
     model_text(&shared_models[0], tremor);
     model_text(&shared_models[1], chain);
     model_pairs(&shared_models[2]);
+    model_text(&shared_models[3], shared);
     for (size_t i = 0; i < MODELS; i++)
         ask_all(&shared_models[i], &alone[i]);
     for (size_t i = 0; i < THREADS; i++) {
@@ -484,6 +543,7 @@ int main(void)
     test_constants();
     test_tremor();
     test_other_models();
+    test_properties();
     test_kinds();
     test_refused_texts();
     test_null();

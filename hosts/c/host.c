@@ -2,9 +2,10 @@
  * A small C host: host MODEL-FILE [SET]
  *
  * Reads a model file, judges the set of rules (the full set if none is given) and prints the verdict, the trace if it is broken, MUST, MAY, the
- * irrelevant rules, the cores and the cuts, each set as its number and its names. Last, it looks the set up in the two lists, as a screen does that
- * has them already: `inside=` is the first core inside the set, `apart=` the first cut apart from it. Exit status and messages are those of ./report:
- * 0 answered; 1 refused, with one line on standard error; 2 wrong use, or something could not be read or written.
+ * irrelevant rules, the cores and the cuts, each set as its number and its names. All of it is for the properties of the model jointly. Last, it
+ * looks the set up in the two lists, as a screen does that has them already: `inside=` is the first core inside the set, `apart=` the first cut apart
+ * from it. Exit status and messages are those of ./report: 0 answered; 1 refused, with one line on standard error; 2 wrong use, or something could
+ * not be read or written.
  */
 #include <errno.h>
 #include <stdio.h>

@@ -23,10 +23,16 @@ void model_text(struct model *model, const char *text)
     add(model, "%s", text);
 }
 
-void model_begin(struct model *model, unsigned vars, unsigned rules, const char *init, const char *prop)
+void model_begin(struct model *model, unsigned vars, unsigned rules, const char *init, const char *property)
 {
     model->length = 0;
-    add(model, "vars=%u\nrules=%u\ninit=%s\nprop=%s\n", vars, rules, init, prop);
+    add(model, "vars=%u\nrules=%u\ninit=%s\n", vars, rules, init);
+    model_property(model, property);
+}
+
+void model_property(struct model *model, const char *expression)
+{
+    add(model, "prop=%s\n", expression);
 }
 
 void model_named_rule(struct model *model, const char *name, const char *expression)
@@ -39,9 +45,11 @@ void model_rule(struct model *model, unsigned number, const char *expression)
     add(model, "rule=rule%04u:%s\n", number, expression);
 }
 
-void model_wide(struct model *model, const char *state, const char *rule)
+void model_wide(struct model *model, unsigned properties, const char *state, const char *rule)
 {
     model_begin(model, 7, 16, state, state);
+    for (unsigned more = 1; more < properties; more++)
+        model_property(model, state);
     for (unsigned i = 0; i < 16; i++) {
         char expression[MODEL_ROOM / 16];
         snprintf(expression, sizeof expression, "%s", rule);

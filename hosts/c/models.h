@@ -15,8 +15,11 @@ struct model {
 /* A model of the bytes of a string. */
 void model_text(struct model *model, const char *text);
 
-/* Begins a model with its counts, `init` and `prop`. */
-void model_begin(struct model *model, unsigned vars, unsigned rules, const char *init, const char *prop);
+/* Begins a model with its counts, `init` and its first property. */
+void model_begin(struct model *model, unsigned vars, unsigned rules, const char *init, const char *property);
+
+/* Adds a property line. */
+void model_property(struct model *model, const char *expression);
 
 /* Adds a rule line. */
 void model_named_rule(struct model *model, const char *name, const char *expression);
@@ -24,8 +27,11 @@ void model_named_rule(struct model *model, const char *name, const char *express
 /* Adds a rule line; the name has eight bytes, the most there can be. */
 void model_rule(struct model *model, unsigned number, const char *expression);
 
-/* Seven letters and 16 rules that are alike, but that a # in a rule stands for another letter in each. */
-void model_wide(struct model *model, const char *state, const char *rule);
+/*
+ * Seven letters, so many properties that are all like `init`, and 16 rules that are alike, but that a # in a rule stands for another letter in
+ * each.
+ */
+void model_wide(struct model *model, unsigned properties, const char *state, const char *rule);
 
 /*
  * Eight bad states, and rules 2k and 2k + 1 keep the unit out of the k-th. So a core takes one rule of each pair: 256 cores of eight rules,

@@ -152,13 +152,15 @@ static void measure_all(const struct model *model, unsigned number)
 static void measure_accepted(void)
 {
     struct model model;
-    model_wide(&model, TIMES_63("!") "a", TIMES_63("!") "#");
+    model_wide(&model, CODREMIF_PROPERTIES, TIMES_63("!") "a", TIMES_63("!") "#");
     measure_all(&model, CODREMIF_ACCEPTED);
-    model_wide(&model, TIMES_31("|a") "!b", TIMES_31("&#") "#");
+    model_wide(&model, CODREMIF_PROPERTIES, TIMES_31("|a") "!b", TIMES_31("&#") "#");
     measure_all(&model, CODREMIF_ACCEPTED);
-    model_wide(&model, TIMES_31("=") TIMES_31("c") "c", TIMES_31(">") TIMES_31("#") "#");
+    model_wide(&model, CODREMIF_PROPERTIES, TIMES_31("=") TIMES_31("c") "c", TIMES_31(">") TIMES_31("#") "#");
     measure_all(&model, CODREMIF_ACCEPTED);
-    model_wide(&model, TIMES_16("!|a") TIMES_4("!!") "b", TIMES_16("!|#") TIMES_4("!!!") "#");
+    model_wide(&model, CODREMIF_PROPERTIES, TIMES_16("!|a") TIMES_4("!!") "b", TIMES_16("!|#") TIMES_4("!!!") "#");
+    measure_all(&model, CODREMIF_ACCEPTED);
+    model_wide(&model, 1, TIMES_63("!") "a", TIMES_63("!") "#");
     measure_all(&model, CODREMIF_ACCEPTED);
     model_pairs(&model);
     measure_all(&model, CODREMIF_ACCEPTED);
@@ -171,19 +173,21 @@ static void measure_accepted(void)
 static void measure_refused(void)
 {
     struct model model;
-    model_wide(&model, "a", TIMES_63("!") "!");
+    model_wide(&model, CODREMIF_PROPERTIES, "a", TIMES_63("!") "!");
     measure_all(&model, CODREMIF_NOT_ONE);
-    model_wide(&model, "a", TIMES_63("&") "a");
+    model_wide(&model, CODREMIF_PROPERTIES, "a", TIMES_63("&") "a");
     measure_all(&model, CODREMIF_NOT_ONE);
-    model_wide(&model, "a", TIMES_63("!") "!a");
+    model_wide(&model, CODREMIF_PROPERTIES, "a", TIMES_63("!") "!a");
     measure_all(&model, CODREMIF_EXPRESSION_LENGTH);
-    model_wide(&model, "a", TIMES_31("&") TIMES_31("#") "##");
+    model_wide(&model, CODREMIF_PROPERTIES, "a", TIMES_31("&") TIMES_31("#") "##");
     measure_all(&model, CODREMIF_NOT_ONE);
-    model_wide(&model, TIMES_63(TIMES_4("!")) "a", "1");
+    model_wide(&model, CODREMIF_PROPERTIES, TIMES_63(TIMES_4("!")) "a", "1");
     measure_all(&model, CODREMIF_EXPRESSION_LENGTH);
+    model_wide(&model, CODREMIF_PROPERTIES + 1, TIMES_63("!") "a", "1");
+    measure_all(&model, CODREMIF_LINE_DUE);
     model_text(&model, "vars=7\nrules=16\ninit=" TIMES_31(TIMES_31("&a")));
     measure_all(&model, CODREMIF_LINE_DUE);
-    model_wide(&model, "a", TIMES_63("!") "#");
+    model_wide(&model, CODREMIF_PROPERTIES, "a", TIMES_63("!") "#");
     model.text[model.length++] = '\n';
     measure_all(&model, CODREMIF_BYTES_FOLLOW);
     model_text(&model, "");

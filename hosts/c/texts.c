@@ -1,8 +1,9 @@
 /*
- * texts COUNT: tests of what the header itself reads: how many rules an accepted text has, its full set and the names of its rules. Random models are
- * written here, so what is expected is known, and the library is asked whether it sees as many rules, whether MUST, MAY and the irrelevant rules
- * make up the full set, and whether what is said of a set that is looked up in the two lists agrees with judging it. Each text stands in a block of
- * its own length, so that valgrind sees a byte too many; cut-off and damaged texts must do no harm.
+ * texts COUNT: tests of what the header itself reads: how many rules an accepted text has, its full set and the names of its rules. Random models
+ * with one to four properties are written here, so what is expected is known, and the library is asked whether it sees as many rules, whether MUST,
+ * MAY and the irrelevant rules make up the full set, whether what is said of a set that is looked up in the two lists agrees with judging it, and
+ * whether what it says of a set jointly follows from what it says by each property. Each text stands in a block of its own length, so that valgrind
+ * sees a byte too many; cut-off and damaged texts must do no harm.
  */
 #include <stdio.h>
 #include <stdlib.h>
@@ -43,16 +44,48 @@ static void random_name(char names[][CODREMIF_NAME_BYTES + 1], unsigned rule)
     }
 }
 
-static unsigned random_model(struct model *model, char names[][CODREMIF_NAME_BYTES + 1])
+/* A random model, its counts, the names of its rules, and the same model with each of its properties alone. */
+struct random_model {
+    struct model joint, by_property[CODREMIF_PROPERTIES];
+    unsigned rules, properties;
+    char names[CODREMIF_RULES][CODREMIF_NAME_BYTES + 1];
+};
+
+/* The last ones of these have a second letter. */
+static const char *random_property(unsigned vars)
 {
-    static const char *const expressions[] = {"1", "0", "a", "!A", ">Aa", "=Aa", "&A!a", "|!A!!a", "!!!!=!A!a"};
-    unsigned rules = 1 + below(CODREMIF_RULES);
-    model_begin(model, 1 + below(7), rules, below(2) ? "!a" : "1", below(2) ? "!a" : "|a!a");
-    for (unsigned rule = 0; rule < rules; rule++) {
-        random_name(names, rule);
-        model_named_rule(model, names[rule], expressions[below(sizeof expressions / sizeof expressions[0])]);
+    static const char *const expressions[] = {"!a", "!a", "|a!a", "!b", "!&ab", ">ba"};
+    return expressions[below(vars == 1 ? 3 : 6)];
+}
+
+static const char *random_rule(unsigned vars)
+{
+    static const char *const expressions[] = {"1",      "0",         "a",  "!A",  ">Aa", "=Aa",  "&A!a",
+                                              "|!A!!a", "!!!!=!A!a", "!B", ">Bb", ">BA", ">B!A", "=Bb"};
+    return expressions[below(vars == 1 ? 9 : 14)];
+}
+
+static void random_model(struct random_model *random)
+{
+    unsigned vars = 1 + below(7);
+    const char *init = vars > 1 && below(2) ? "&!a!b" : below(2) ? "!a" : "1";
+    random->rules = 1 + below(CODREMIF_RULES);
+    random->properties = 1 + below(CODREMIF_PROPERTIES);
+    for (unsigned i = 0; i < random->properties; i++) {
+        const char *property = random_property(vars);
+        model_begin(&random->by_property[i], vars, random->rules, init, property);
+        if (i == 0)
+            model_begin(&random->joint, vars, random->rules, init, property);
+        else
+            model_property(&random->joint, property);
     }
-    return rules;
+    for (unsigned rule = 0; rule < random->rules; rule++) {
+        const char *expression = random_rule(vars);
+        random_name(random->names, rule);
+        model_named_rule(&random->joint, random->names[rule], expression);
+        for (unsigned i = 0; i < random->properties; i++)
+            model_named_rule(&random->by_property[i], random->names[rule], expression);
+    }
 }
 
 static uint8_t *copy(const char *bytes, size_t length)
@@ -101,22 +134,22 @@ static void test_random_models(unsigned count)
     int accepted = 1, rules_agree = 1, sets_agree = 1, names_agree = 1, cores_agree = 1, kinds_agree = 1, seen[CODREMIF_RULES + 1] = {0};
     unsigned with_core = 0;
     for (unsigned i = 0; i < count; i++) {
-        struct model model;
-        char names[CODREMIF_RULES][CODREMIF_NAME_BYTES + 1];
+        struct random_model random;
         uint8_t sets[CODREMIF_LIST_BYTES], trace[CODREMIF_TRACE_BYTES];
-        unsigned rules = random_model(&model, names);
-        uint8_t *text = copy(model.text, model.length);
-        uint32_t full = codremif_full_set(text, model.length);
-        uint64_t cores = codremif_cores(text, model.length, sets, sizeof sets);
-        int holds = codremif_holds(codremif_judge(text, model.length, full, trace, sizeof trace));
-        accepted = accepted && codremif_accepted(codremif_must(text, model.length));
-        rules_agree = rules_agree && codremif_rules(text, model.length) == rules;
-        sets_agree = sets_agree && is_full_set(text, model.length, full);
-        names_agree = names_agree && has_names(text, model.length, names, rules);
+        random_model(&random);
+        size_t length = random.joint.length;
+        uint8_t *text = copy(random.joint.text, length);
+        uint32_t full = codremif_full_set(text, length);
+        uint64_t cores = codremif_cores(text, length, sets, sizeof sets);
+        int holds = codremif_holds(codremif_judge(text, length, full, trace, sizeof trace));
+        accepted = accepted && codremif_accepted(codremif_must(text, length));
+        rules_agree = rules_agree && codremif_rules(text, length) == random.rules;
+        sets_agree = sets_agree && is_full_set(text, length, full);
+        names_agree = names_agree && has_names(text, length, random.names, random.rules);
         cores_agree = cores_agree && codremif_accepted(cores) && (codremif_count(cores) > 0) == holds;
-        kinds_agree = kinds_agree && has_one_kind_each(text, model.length, full);
+        kinds_agree = kinds_agree && has_one_kind_each(text, length, full);
         with_core += codremif_count(cores) > 0;
-        seen[rules] = 1;
+        seen[random.rules] = 1;
         free(text);
     }
     for (unsigned rules = 1; rules <= CODREMIF_RULES; rules++)
@@ -126,7 +159,7 @@ static void test_random_models(unsigned count)
     check(sets_agree, "random models: codremif_full_set is the last set that the library judges");
     check(names_agree, "random models: codremif_rule_name gives each name, and NULL past the last");
     check(cores_agree && with_core > count / 10 && with_core < count - count / 10,
-          "random models: the property holds exactly when there is a core");
+          "random models: the full set holds exactly when there is a core");
     check(kinds_agree, "random models: each rule is in exactly one of MUST, MAY and the irrelevant rules");
 }
 
@@ -160,11 +193,10 @@ static void test_random_lookups(unsigned count)
 {
     struct said said = {0, 0, 0, 0, 0};
     for (unsigned i = 0; i < count; i++) {
-        struct model model;
-        char names[CODREMIF_RULES][CODREMIF_NAME_BYTES + 1];
-        random_model(&model, names);
-        uint8_t *text = copy(model.text, model.length);
-        look_up(text, model.length, &said);
+        struct random_model random;
+        random_model(&random);
+        uint8_t *text = copy(random.joint.text, random.joint.length);
+        look_up(text, random.joint.length, &said);
         free(text);
     }
     check(said.inside > count && said.apart > count && said.inside + said.apart == 8 * count,
@@ -172,6 +204,74 @@ static void test_random_lookups(unsigned count)
     check(said.unlisted == 0, "random models: no set is unlisted");
     check(said.unlike_judged == 0, "random models: a core is inside a set exactly when the set holds");
     check(said.no_witness == 0, "random models: the witness is a core inside the set, or a cut apart from it");
+}
+
+/* The verdict on a set; if it is broken, the trace has some states. */
+struct judged {
+    int accepted;
+    size_t length;
+    uint8_t trace[CODREMIF_TRACE_BYTES];
+};
+
+static struct judged judge(const struct model *model, uint32_t set)
+{
+    struct judged judged = {0, 0, {0}};
+    uint8_t *text = copy(model->text, model->length);
+    uint64_t answer = codremif_judge(text, model->length, set, judged.trace, sizeof judged.trace);
+    judged.accepted = codremif_accepted(answer);
+    judged.length = codremif_length(answer);
+    free(text);
+    return judged;
+}
+
+/* Whether a trace comes before another: it is shorter, or as long with the smaller state at the first place where they differ. */
+static int is_before(const struct judged *one, const struct judged *other)
+{
+    return one->length != other->length ? one->length < other->length : memcmp(one->trace, other->trace, one->length) < 0;
+}
+
+/* What came up of random models with several properties, and what was wrong. */
+struct several {
+    unsigned models[CODREMIF_PROPERTIES + 1], held, by_another, unlike_verdict, unlike_trace;
+};
+
+/* Jointly a set holds if it holds by each property, and the trace is the first of those by each. */
+static void judge_several(const struct random_model *random, uint32_t set, struct several *several)
+{
+    struct judged joint = judge(&random->joint, set), first = {1, 0, {0}}, alone;
+    unsigned broken_by = 0;
+    for (unsigned i = 0; i < random->properties; i++) {
+        alone = judge(&random->by_property[i], set);
+        first.accepted = first.accepted && alone.accepted;
+        if (alone.length > 0 && (first.length == 0 || is_before(&alone, &first))) {
+            first.length = alone.length;
+            memcpy(first.trace, alone.trace, alone.length);
+            broken_by = i;
+        }
+    }
+    several->held += first.length == 0;
+    several->by_another += broken_by > 0;
+    several->unlike_verdict += !joint.accepted || !first.accepted || (joint.length == 0) != (first.length == 0);
+    several->unlike_trace += joint.length != first.length || memcmp(joint.trace, first.trace, first.length) != 0;
+}
+
+static void test_random_properties(unsigned count)
+{
+    struct several several = {{0}, 0, 0, 0, 0};
+    int each = 1;
+    for (unsigned i = 0; i < count; i++) {
+        struct random_model random;
+        random_model(&random);
+        several.models[random.properties]++;
+        for (unsigned turn = 0; turn < 4; turn++)
+            judge_several(&random, turn == 0 ? ((uint32_t)1 << random.rules) - 1 : below(1u << random.rules), &several);
+    }
+    for (unsigned properties = 1; properties <= CODREMIF_PROPERTIES; properties++)
+        each = each && several.models[properties] > count / 10;
+    check(each && several.held > count / 10 && several.by_another > count / 10,
+          "random models: one to four properties, with sets that hold for each, and sets that a later one than the first is broken by");
+    check(several.unlike_verdict == 0, "random models: a set holds exactly when it holds by each property");
+    check(several.unlike_trace == 0, "random models: the trace is the first of those by each property");
 }
 
 /* Of a text that is not accepted nothing is promised but that nothing outside it is read. */
@@ -214,6 +314,7 @@ int main(int argc, char **argv)
     unsigned count = argc == 2 ? (unsigned)strtoul(argv[1], NULL, 10) : 0;
     test_random_models(count);
     test_random_lookups(count);
+    test_random_properties(count);
     test_other_texts();
     test_longest_names();
     return failures != 0;

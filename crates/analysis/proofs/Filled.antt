@@ -44,7 +44,7 @@ module _ (text : List ℕ) {before : List ℕ} {m : Model} (r : RoomFor m before
   same-verdict = rw (p, q) (same-judge before text m r)
 
   pub judges : Judges masks t
-  judges = record { room = room; few = rw rules-are (r .rules); more = rw (p, q) (filled-monotone before text m r) }
+  judges = record { room = room; few = rw rules-are (r .few .rules); more = rw (p, q) (filled-monotone before text m r) }
 
   pub trace-is : {S : ℕ} {x : Trace} → S < 2 ^ m .rules → x ≡ traceArray (systemBy masks t S) → x ≡ traceArray (systemOf (described text m) S)
   trace-is {S} l e = e ∙ ap (λ a. traceArray (systemBy a t S)) p ∙ ap (λ a. traceArray (systemBy (masksOf before (described text m)) a S)) q ∙ same-trace before text m r S l

@@ -2,9 +2,8 @@
 ghost use mathlib.Core.Path.{_≡_};
 ghost use Rattle.models.specs.Written.{described};
 ghost use Rattle.semantics.specs.Meaning.{judge};
-ghost use Rattle.semantics.specs.TablesOf.{RoomFor};
+ghost use Rattle.semantics.specs.TablesOf.{Few, RoomFor};
 ghost use Rattle.sorting.specs.Kinds.{kindsOf};
-ghost use Rattle.analysis.specs.Few.{Few};
 use models::model::Model;
 use sorting::kinds::Kinds;
 

@@ -3,8 +3,7 @@ ghost use mathlib.Core.Path.{_≡_};
 ghost use Rattle.sets.specs.Lists.{mustOf};
 ghost use Rattle.models.specs.Written.{described};
 ghost use Rattle.semantics.specs.Meaning.{judge};
-ghost use Rattle.semantics.specs.TablesOf.{RoomFor};
-ghost use Rattle.analysis.specs.Few.{Few};
+ghost use Rattle.semantics.specs.TablesOf.{Few, RoomFor};
 use models::model::Model;
 
 // MUST, by masks in the lent room. They are filled once.

@@ -4,8 +4,7 @@ ghost use Prim.Native.Nat.{_^_, _<_};
 ghost use Rattle.models.specs.Written.{described};
 ghost use Rattle.systems.specs.Traced.{traceArray};
 ghost use Rattle.semantics.specs.Meaning.{systemOf};
-ghost use Rattle.semantics.specs.TablesOf.{RoomFor};
-ghost use Rattle.analysis.specs.Few.{Few};
+ghost use Rattle.semantics.specs.TablesOf.{Few, RoomFor};
 use models::model::Model;
 
 // The trace of a set, by masks in the lent room. They are filled once.

@@ -17,14 +17,13 @@ use Rattle.sorting.specs.Which.{listed, ofKind}
 use Rattle.sorting.specs.declared.kinds.Kind.{Kind}
 use Rattle.analysis.specs.declared.lists.Listed.the-variants.{Count as Found, TooShort}
 use Rattle.analysis.specs.declared.lists.Listed.{Listed}
-use Rattle.analysis.specs.Few.{Few}
 use Rattle.analysis.specs.Lists.{listedAnswer, listedBytes}
 use Rattle.calls.specs.declared.answers.ListAnswer.{ListAnswer}
 use Rattle.calls.specs.declared.answers.ListAnswer.the-variants.{Refused as ListRefused}
 use Rattle.calls.specs.declared.answers.SetAnswer.the-variants.{Refused as SetRefused, Set}
 use Rattle.calls.specs.Answers.{textOutcome, judgeIn, listIn, kindIn, after, listAnswer, listBytes, kindAnswer}
 use Rattle.calls.specs.AsRead.{IsRead, ofListed}
-use Rattle.calls.specs.Laws.Answers.{read-model, vars-le, rules-le, rules-read, given-refused, list-numbers, list-enough}
+use Rattle.calls.specs.Laws.Answers.{read-model, rules-read, given-refused, list-numbers, list-enough}
 use Rattle.calls.specs.Laws.Answers as Law
 
 -- what a call gives for a list
@@ -32,9 +31,6 @@ abbrev pub Lists : WhichList → List ℕ → List ℕ → ListAnswer → List �
 Lists which text lent answer bytes = (answer ≡ listAnswer which text lent) × (bytes ≡ listBytes which text lent)
 
 module _ {text : List ℕ} {m : Model} (r : IsRead text m) where
-  pub few : Few m
-  few = record { vars = vars-le r; rules = rules-le r }
-
   pub list-told : (which : WhichList) → listed which (m .rules) (judge (described text m)) ≡ listIn which text
   unfolding listIn judgeIn
   list-told which = ap₂ (λ (R : ℕ) D. listed which R (judge D)) (rules-read r) (read-model r)

@@ -13,7 +13,7 @@ use Rattle.calls.specs.Answers.{systemIn, judgeAnswer, judgeBytes}
 -- What judging set S answers and writes.
 pub record Demand2 (text : List ℕ) (S : ℕ) (lent : List ℕ) : Type 0 where
   -- A set is judged to hold exactly when no run from a start state, each of whose steps meets every rule of the set, comes to a state that
-  -- breaks the property.
+  -- breaks the property; of several, some property.
   pub held : (judgeAnswer text S lent ≡ Holds) ↔ ((run : List ℕ) → Breach (systemIn text S) run → ⊥)
   -- If it is judged broken, the run shown is such a run, no such run is shorter, and it comes first among those of its length.
   pub shown : (n : ℕ) → judgeAnswer text S lent ≡ Broken n → Trace (systemIn text S) (take n (judgeBytes text S lent))

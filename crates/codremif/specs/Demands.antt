@@ -1,5 +1,5 @@
 -- The demands of the mission, as theorems about what exactly the calls answer and write. Nothing is assumed.
--- To believe them, read these files below crates/ in this order (lines without imports and blank lines, 1,322 in all). What is proved of their
+-- To believe them, read these files below crates/ in this order (lines without imports and blank lines, 1,433 in all). What is proved of their
 -- definitions stands in `Laws` and need not be read, and neither need the functions that compute (the reading of a text, the verdict, the lists):
 -- the theorems say what they give.
 --   a number as a set of rules or of letters           sets/specs/Bit                8
@@ -7,19 +7,21 @@
 --   a number in base ten                               lines/specs/Decimal          10
 --   bytes, and those of a name                         lines/specs/Bytes            41
 --   a legal rule and its line                          lines/specs/Written          40
---   a model, when it is legal, its written form        models/specs/Written         57
+--   a model, when it is legal, its written form        models/specs/Written         74
+--   how many property lines a text has                 models/specs/Properties      15
 --   accepted texts are exactly these                   models/specs/Accepted        34
 --   when a text is refused: the numbers 1 to 9         models/specs/Refusals       106
 --   the reading answers with the first that fits       models/specs/Refused         29
 --   runs, reached, holds, the trace                    systems/specs/System         51
---   the transition system of a model and a set         semantics/specs/Meaning      30
+--   the transition system of a model and a set         semantics/specs/Meaning      34
 --   parts, sharing a rule, the order of a list         sets/specs/Sets              30
 --   cores and cuts of any judgement                    sets/specs/Cores             33
 --   the bytes of a list, and lent bytes                sets/specs/Lists             53
 --   demand 3 for any judgement                         sets/specs/Demand3           49
+--   unions of one core from each of several judgements sets/specs/Joint             20
 --   MUST, MAY and the irrelevant rules                 sets/specs/Kinds             30
 --   what a set keeps of a list                         sets/specs/Kept               7
---   a model that is changed in its rules               models/specs/Changed         13
+--   a model that is changed in rules or properties     models/specs/Changed         17
 --   which list is meant, and which kind of rules       sorting/specs/Which          13
 --   what each call answers and writes                  calls/specs/Answers          91
 --   a list in bytes, and the first set that fits       lookup/specs/Search          29
@@ -31,13 +33,13 @@
 --   demand 3 for a text                                codremif/specs/Demand3       89
 --   rules that nobody relies on, for a text            codremif/specs/Relied        68
 --   the quick answer, for any lists and for a text's   codremif/specs/Suffices      64
+--   several properties together, for a text            codremif/specs/Properties    51
 --   the starred examples                               codremif/specs/Examples     112
 use Prim.Native.Nat.{ℕ, _^_, _<_}
-use mathlib.Core.Path.{_≡_, ap}
+use mathlib.Core.Path.{_≡_}
 use mathlib.Core.List.{List, List·Memᴰ}
 use Rattle.models.specs.declared.model.Outcome.the-variants.{Accepted}
 use Rattle.models.specs.Written.{Described, Legal, writtenModel}
-use Rattle.models.specs.Accepted.{told-back}
 use Rattle.semantics.specs.Meaning.{systemOf}
 use Rattle.calls.specs.declared.answers.ListAnswer.{ListAnswer}
 use Rattle.calls.specs.declared.answers.SetAnswer.{SetAnswer}
@@ -47,18 +49,20 @@ use Rattle.codremif.specs.Demand2.{Demand2}
 use Rattle.codremif.specs.Demand3.{inRattle, forHosts, Asked, TextDemand3, AsCalled, hostAsked}
 use Rattle.codremif.specs.Examples.{Case, table, Answered}
 use Rattle.codremif.specs.Relied.{Relied}
-use Rattle.codremif.specs.Suffices.{QuickAnswer}
+use Rattle.codremif.specs.Suffices.{QuickAnswer, textByAnswers, textByHosts}
+use Rattle.codremif.specs.Properties.{SeveralProperties}
+use Rattle.codremif.specs.Laws.Written.{written-system}
 use Rattle.codremif.specs.Laws.Demand1.{calls-meet-demand1, hosts-meet-demand1}
 use Rattle.codremif.specs.Laws.Demand2.{judging-meets-demand2}
 use Rattle.codremif.specs.Laws.Examples.{table-answered}
 use Rattle.codremif.specs.Laws.Demand3.{calls-meet-demand3, hosts-meet-demand3}
 use Rattle.codremif.specs.Laws.Relied.{relied}
 use Rattle.codremif.specs.Laws.Suffices.{the-quick-answer}
+use Rattle.codremif.specs.Laws.Properties.{calls-together, hosts-together}
 
 -- A text that is written from a legal model means what the model means: the runs of each set of rules are the model's.
 pub meaning : (M : Described) → Legal M → (S : ℕ) → systemIn (writtenModel M) S ≡ systemOf M S
-unfolding systemIn
-meaning M l S = ap (λ D. systemOf D S) (told-back M l)
+meaning = written-system
 
 -- Demand 1: for every text, every call, every set and all lent bytes.
 pub demand1 : (text : List ℕ) → Demand1 text
@@ -93,3 +97,12 @@ rules-nobody-relies-on = relied
 -- its rules, and its lists as the calls wrote them, no set is unlisted, and the answer is that of judging it.
 pub quick-answer : QuickAnswer
 quick-answer = the-quick-answer
+
+-- Several properties together: for every accepted text, what the calls answer is told by what they answer by each of its properties alone, for every
+-- count of properties: the verdicts, the traces and the cores.
+pub several-properties : (text : List ℕ) → textOutcome text ≡ Accepted → SeveralProperties textByAnswers text
+several-properties = calls-together
+
+-- The same of the exported calls, by their 64-bit answers and their lent bytes.
+pub several-properties-hosts : (text : List ℕ) → textOutcome text ≡ Accepted → SeveralProperties textByHosts text
+several-properties-hosts = hosts-together

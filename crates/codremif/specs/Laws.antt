@@ -1,4 +1,5 @@
 -- The laws of this crate: what is proved of the definitions that stand one folder above.
+pub mod Written
 pub mod Packing
 pub mod Host
 pub mod Demand1
@@ -6,4 +7,5 @@ pub mod Demand2
 pub mod Demand3
 pub mod Relied
 pub mod Suffices
+pub mod Properties
 pub mod Examples

@@ -7,5 +7,6 @@ pub mod Demand3
 pub mod Examples
 pub mod Relied
 pub mod Suffices
+pub mod Properties
 pub mod Laws
 pub mod Demands

@@ -71,7 +71,7 @@ pub extern "C" fn codremif_witness(set: u32, cores: &[u8], cuts: &[u8]) -> u64
 // Which version of the part this is, as CODREMIF_VERSION of the header says it.
 #[no_mangle]
 pub extern "C" fn codremif_version() -> u64
-    ensures { λ r. ⌜ r ≡ versionNumber 1 2 0 ⌝ }
+    ensures { λ r. ⌜ r ≡ versionNumber 1 3 0 ⌝ }
 {
-    1002000
+    1003000
 }

@@ -213,6 +213,122 @@ fn expression_forms() {
     );
 }
 
+fn property_line_counts() {
+    show(b"no property line", b"vars=1\nrules=1\ninit=1\nrule=r:1\n");
+    show(
+        b"two property lines",
+        b"vars=1\nrules=1\ninit=1\nprop=1\nprop=1\nrule=r:1\n",
+    );
+    show(
+        b"three property lines",
+        b"vars=1\nrules=1\ninit=1\nprop=1\nprop=1\nprop=1\nrule=r:1\n",
+    );
+    show(
+        b"four property lines",
+        b"vars=1\nrules=1\ninit=1\nprop=1\nprop=1\nprop=1\nprop=1\nrule=r:1\n",
+    );
+    show(
+        b"five property lines",
+        b"vars=1\nrules=1\ninit=1\nprop=1\nprop=1\nprop=1\nprop=1\nprop=1\nrule=r:1\n",
+    );
+}
+
+fn misplaced_property_lines() {
+    show(
+        b"a property line before init",
+        b"vars=1\nrules=1\nprop=1\ninit=1\nrule=r:1\n",
+    );
+    show(
+        b"a property line between rule lines",
+        b"vars=1\nrules=2\ninit=1\nprop=1\nrule=r:1\nprop=1\nrule=s:1\n",
+    );
+    show(
+        b"a property line behind the rule lines",
+        b"vars=1\nrules=1\ninit=1\nprop=1\nrule=r:1\nprop=1\n",
+    );
+    show(
+        b"an empty line between property lines",
+        b"vars=1\nrules=1\ninit=1\nprop=1\n\nprop=1\nrule=r:1\n",
+    );
+    show(
+        b"prop without = as the second",
+        b"vars=1\nrules=1\ninit=1\nprop=1\nprop1\nrule=r:1\n",
+    );
+    show(
+        b"the second without byte 10",
+        b"vars=1\nrules=1\ninit=1\nprop=1\nprop=1",
+    );
+    show(
+        b"the fourth without byte 10",
+        b"vars=1\nrules=1\ninit=1\nprop=1\nprop=1\nprop=1\nprop=1",
+    );
+}
+
+fn faults_of_the_second() {
+    show(
+        b"the second with no byte",
+        b"vars=1\nrules=1\ninit=1\nprop=1\nprop=\nrule=r:1\n",
+    );
+    show(
+        b"the second with 65 bytes",
+        b"vars=1\nrules=1\ninit=1\nprop=1\nprop=!!!!!!!!!!!!!!!!!!!!!!!!!!!!!!!!!!!!!!!!!!!!!!!!!!!!!!!!!!!!!!!!a\nrule=r:1\n",
+    );
+    show(
+        b"the second with another byte",
+        b"vars=1\nrules=1\ninit=1\nprop=1\nprop=x\nrule=r:1\n",
+    );
+    show(
+        b"the second with b of one letter",
+        b"vars=1\nrules=1\ninit=1\nprop=1\nprop=b\nrule=r:1\n",
+    );
+    show(
+        b"the second with A",
+        b"vars=1\nrules=1\ninit=1\nprop=1\nprop=A\nrule=r:1\n",
+    );
+    show(
+        b"the second with an operand missing",
+        b"vars=1\nrules=1\ninit=1\nprop=1\nprop=&a\nrule=r:1\n",
+    );
+}
+
+fn faults_of_several() {
+    show(
+        b"the fourth with two expressions",
+        b"vars=1\nrules=1\ninit=1\nprop=1\nprop=1\nprop=1\nprop=aa\nrule=r:1\n",
+    );
+    show(
+        b"the first and the second at fault",
+        b"vars=1\nrules=1\ninit=1\nprop=A\nprop=\nrule=r:1\n",
+    );
+    show(
+        b"the second at fault and a fifth",
+        b"vars=1\nrules=1\ninit=1\nprop=1\nprop=A\nprop=1\nprop=1\nprop=1\nrule=r:1\n",
+    );
+    show(
+        b"a repeated name behind three properties",
+        b"vars=1\nrules=2\ninit=1\nprop=1\nprop=1\nprop=1\nrule=r:1\nrule=r:1\n",
+    );
+    show(
+        b"fewer rule lines behind two properties",
+        b"vars=1\nrules=2\ninit=1\nprop=1\nprop=1\nrule=r:1\n",
+    );
+}
+
+fn bytes_behind_properties() {
+    show(
+        b"bytes follow, two properties",
+        b"vars=1\nrules=2\ninit=1\nprop=1\nprop=1\nrule=r:1\nrule=s:1\nx",
+    );
+    show(
+        b"bytes follow, four properties",
+        b"vars=1\nrules=1\ninit=1\nprop=1\nprop=1\nprop=1\nprop=1\nrule=r:1\nx",
+    );
+    show(
+        b"byte 10 follows, three properties",
+        b"vars=1\nrules=1\ninit=1\nprop=1\nprop=1\nprop=1\nrule=r:1\n\n",
+    );
+}
+
 // The verdict on a set, and eight lent bytes afterwards, of which the first `room` were lent; they held 201 to 208 before, so that a byte shown
 // from another place is seen.
 fn show_judged(name: &[u8], text: &[u8], set: u32, room: usize)
@@ -306,6 +422,14 @@ fn show_kinds(name: &[u8], text: &[u8]) {
     show_kind(text, b" may=", Kind::May);
     show_kind(text, b" irr=", Kind::Irrelevant);
     io::write_all(STDOUT_FILENO, b"\n");
+}
+
+// What every call answers for a text, and for one of its sets.
+fn show_answers(name: &[u8], text: &[u8], set: u32) {
+    show_judged(name, text, set, 8);
+    show_list(b"its cores", text, WhichList::Cores, 8);
+    show_list(b"its cuts", text, WhichList::Cuts, 8);
+    show_kinds(b"its rules", text);
 }
 
 fn show_witness(part: &[u8]) {
@@ -549,6 +673,119 @@ fn kinds_of_rules() {
     );
 }
 
+fn earlier_breaches() {
+    show_judged(
+        b"the first property alone",
+        b"vars=2\nrules=1\ninit=&!a!b\nprop=!b\nrule=s:>Ba\n",
+        1,
+        8,
+    );
+    show_judged(
+        b"and in two bytes",
+        b"vars=2\nrules=1\ninit=&!a!b\nprop=!b\nrule=s:>Ba\n",
+        1,
+        2,
+    );
+    show_judged(
+        b"the second broken earlier",
+        b"vars=2\nrules=1\ninit=&!a!b\nprop=!b\nprop=!a\nrule=s:>Ba\n",
+        1,
+        2,
+    );
+    show_judged(
+        b"in the other order",
+        b"vars=2\nrules=1\ninit=&!a!b\nprop=!a\nprop=!b\nrule=s:>Ba\n",
+        1,
+        2,
+    );
+    show_judged(
+        b"a set that the model lacks",
+        b"vars=2\nrules=1\ninit=&!a!b\nprop=!b\nprop=!a\nrule=s:>Ba\n",
+        2,
+        8,
+    );
+}
+
+fn first_breaches() {
+    show_judged(
+        b"the first property alone",
+        b"vars=2\nrules=1\ninit=&!a!b\nprop=!b\nrule=s:>Ba\n",
+        0,
+        8,
+    );
+    show_judged(
+        b"the second broken by a smaller state",
+        b"vars=2\nrules=1\ninit=&!a!b\nprop=!b\nprop=!a\nrule=s:>Ba\n",
+        0,
+        8,
+    );
+    show_judged(
+        b"a start state breaks the second",
+        b"vars=1\nrules=1\ninit=1\nprop=1\nprop=a\nrule=r:1\n",
+        1,
+        8,
+    );
+}
+
+fn joint_answers() {
+    show_answers(
+        b"all rules break the second",
+        b"vars=2\nrules=2\ninit=&!a!b\nprop=!a\nprop=!b\nrule=r:=Aa\nrule=s:1\n",
+        3,
+    );
+    show_answers(
+        b"the first of two",
+        b"vars=2\nrules=2\ninit=&!a!b\nprop=!a\nrule=r:=Aa\nrule=s:=Bb\n",
+        3,
+    );
+    show_answers(
+        b"the second of two",
+        b"vars=2\nrules=2\ninit=&!a!b\nprop=!b\nrule=r:=Aa\nrule=s:=Bb\n",
+        3,
+    );
+    show_answers(
+        b"both together",
+        b"vars=2\nrules=2\ninit=&!a!b\nprop=!a\nprop=!b\nrule=r:=Aa\nrule=s:=Bb\n",
+        3,
+    );
+}
+
+fn joint_cores() {
+    show_answers(
+        b"two cores of each",
+        b"vars=2\nrules=3\ninit=&!a!b\nprop=!a\nprop=!b\nrule=r:=Aa\nrule=s:=Bb\nrule=t:&!A!B\n",
+        3,
+    );
+    show_answers(
+        b"a core of the first is in no joint one",
+        b"vars=2\nrules=2\ninit=&!a!b\nprop=!a\nprop=!b\nrule=r:=Aa\nrule=s:&!A!B\n",
+        1,
+    );
+}
+
+fn more_joint_answers() {
+    show_answers(
+        b"Tremor with its property twice",
+        b"vars=3\nrules=3\ninit=!c\nprop=>c&ab\nprop=>c&ab\nrule=ra:>CA\nrule=rb:>CB\nrule=vote:>C&AB\n",
+        1,
+    );
+    show_answers(
+        b"four properties",
+        b"vars=4\nrules=4\ninit=&&!a!b&!c!d\nprop=!a\nprop=!b\nprop=!c\nprop=!d\nrule=ra:=Aa\nrule=rb:=Bb\nrule=rc:=Cc\nrule=rd:=Dd\n",
+        7,
+    );
+    show_answers(
+        b"two that always hold",
+        b"vars=1\nrules=1\ninit=1\nprop=1\nprop=|a!a\nrule=r:1\n",
+        0,
+    );
+    show_answers(
+        b"a fifth property line",
+        b"vars=1\nrules=1\ninit=1\nprop=1\nprop=1\nprop=1\nprop=1\nprop=1\nrule=r:1\n",
+        0,
+    );
+}
+
 fn looked_up_in_tremor() {
     show_looked_up(b"set 0", 0, b"\x04\x00\x03\x00", b"\x05\x00\x06\x00");
     show_looked_up(b"set 1", 1, b"\x04\x00\x03\x00", b"\x05\x00\x06\x00");
@@ -628,12 +865,22 @@ fn main() {
     expression_bytes();
     expression_letters();
     expression_forms();
+    property_line_counts();
+    misplaced_property_lines();
+    faults_of_the_second();
+    faults_of_several();
+    bytes_behind_properties();
     tremor_sets();
     refused_sets();
     other_models();
     core_lists();
     cut_lists();
     kinds_of_rules();
+    earlier_breaches();
+    first_breaches();
+    joint_answers();
+    joint_cores();
+    more_joint_answers();
     looked_up_in_tremor();
     sets_with_other_rules();
     lists_at_the_edges();

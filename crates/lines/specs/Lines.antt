@@ -47,10 +47,14 @@ unfoldable pub lineLength : List ℕ → ℕ
 unfolding prefix
 lineLength s = prefix InLine s
 
+-- s starts with the key
+abbrev pub startsWith : List ℕ → List ℕ → Bool
+startsWith key s = same (take (length key) s) key
+
 -- s begins with a line that starts with the key and has a byte 10 at its end
 unfoldable pub isLine : List ℕ → List ℕ → Bool
 unfolding same lineLength
-isLine key s = same (take (length key) s) key && ltb (lineLength s) (length s)
+isLine key s = startsWith key s && ltb (lineLength s) (length s)
 
 -- where that line ends
 unfoldable pub endOf : List ℕ → List ℕ → End

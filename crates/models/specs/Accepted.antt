@@ -8,14 +8,14 @@ use native.Mathlib.Omega.{arith}
 use lib.ListN.{length}
 use Rattle.exprs.specs.Expr.{written, size}
 use Rattle.lines.specs.Decimal.{decimal}
-use Rattle.lines.specs.Lines.{varsKey, rulesKey, initKey, propKey}
+use Rattle.lines.specs.Lines.{varsKey, rulesKey, initKey}
 use Rattle.lines.specs.Written.{line, writtenRule}
 use Rattle.lines.specs.Laws.Decimal.{decimal-one}
 use Rattle.lines.specs.Laws.Lines.{length-line}
 use Rattle.models.specs.declared.model.Outcome.the-variants.{Accepted}
 use Rattle.models.specs.Reading.{readModel}
-use Rattle.models.specs.Written.{Described, Legal, writtenModel, modelIn}
-use Rattle.models.specs.Laws.Written.{found-is-described, written-is-found, accepted-is-written, accepted-is-found, written-lines, length-five, rules-length, decimal-length}
+use Rattle.models.specs.Written.{Described, Legal, writtenProperty, writtenModel, modelIn}
+use Rattle.models.specs.Laws.Written.{found-is-described, written-is-found, accepted-is-written, accepted-is-found, written-lines, length-five, rules-length, properties-length, decimal-length}
 
 -- a text is accepted exactly when it is the written form of a legal model
 pub accepts-what-is-written : (text : List ℕ) → (readModel text .outcome ≡ Accepted) ↔ ((M : Described) × Legal M × (text ≡ writtenModel M))
@@ -43,14 +43,14 @@ told-back M l = sym (found-is-described (writtenModel M) M (readModel (writtenMo
 pub one-model : (M N : Described) → Legal M → Legal N → writtenModel M ≡ writtenModel N → M ≡ N
 one-model M N l k q = sym (told-back M l) ∙ ap modelIn q ∙ told-back N k
 
--- "no legal model has more than 1,420" bytes
-pub legal-length : (M : Described) → Legal M → length (writtenModel M) ≤ 1420
+-- "A legal model now has at most 1,630 bytes."
+pub legal-length : (M : Described) → Legal M → length (writtenModel M) ≤ 1630
 unfolding size
 legal-length M l =
     let l₁ : List ℕ = line varsKey (decimal (M .vars)) in
     let l₂ : List ℕ = line rulesKey (decimal (length (M .rules))) in
     let l₃ : List ℕ = line initKey (written (M .init)) in
-    let l₄ : List ℕ = line propKey (written (M .prop)) in
+    let l₄ : List ℕ = flatMap writtenProperty (M .props) in
     let last : List ℕ = flatMap writtenRule (M .rules) in
     let digit : length (decimal (M .vars)) ≡ 1 = ap length (decimal-one (M .vars) (omega (arith, l .vars .atMost))) in
-    omega (arith, l .count .atMost, l .init .bytes, l .prop .bytes, decimal-length (length (M .rules)) (omega (arith, l .count .atMost)), rules-length (M .vars) (M .rules) (l .rules), ap length (written-lines M), length-five l₁ l₂ l₃ l₄ last, length-line varsKey (decimal (M .vars)), length-line rulesKey (decimal (length (M .rules))), length-line initKey (written (M .init)), length-line propKey (written (M .prop)))
+    omega (arith, l .count .atMost, l .init .bytes, l .properties .atMost, properties-length (M .vars) (M .props) (l .props), decimal-length (length (M .rules)) (omega (arith, l .count .atMost)), rules-length (M .vars) (M .rules) (l .rules), ap length (written-lines M), length-five l₁ l₂ l₃ l₄ last, length-line varsKey (decimal (M .vars)), length-line rulesKey (decimal (length (M .rules))), length-line initKey (written (M .init)))

@@ -1,7 +1,10 @@
 -- What is proved of the definitions of this crate.
+pub mod Lines
 pub mod Finished
 pub mod Ranges
+pub mod Lists
 pub mod Rules
+pub mod Properties
 pub mod Written
 pub mod Grounds
 pub mod Fitting

@@ -1,6 +1,6 @@
 -- Texts at which two numbers of document 01 fit, in one table: the reading answers with the one that comes first, and the other fits as well. Each
--- number has a text where a later one fits too, and one where an earlier one does; nothing that concerns the text comes after 9.
--- The theorem is in `Refused`: it is computed from the texts as they are printed here. Assumes nothing: these are definitions.
+-- number has a text where a later one fits too, and one where an earlier one does; nothing that concerns the text comes after 9. The last rows have
+-- more than one property line (document 02). The theorem is in `Refused`: it is computed from the texts as printed here. Assumes nothing: these are definitions.
 use Prim.Native.Nat.{ℕ}
 use mathlib.Core.Path.{_≡_}
 use mathlib.Core.List.{List, [], _∷_, _++_}
@@ -64,6 +64,42 @@ overlaps =
     ∷ record { text = endedLines ("vars=1" ∷ "rules=1" ∷ "init=a" ∷ "prop=a" ∷ "rule=r:&A" ∷ "" ∷ []); number = 8; line = 5; other = 9; otherLine = 6 }
     -- 1 and 9: a rule line is missing where another line stands, and bytes follow
     ∷ record { text = endedLines ("vars=1" ∷ "rules=1" ∷ "init=a" ∷ "prop=a" ∷ "" ∷ []) ++ bytes "r"; number = 1; line = 5; other = 9; otherLine = 6 }
+    -- 1 and 9: a fifth property, where the rule line is due, and bytes behind it
+    ∷ record {
+      text = endedLines ("vars=1" ∷ "rules=1" ∷ "init=a" ∷ "prop=a" ∷ "prop=a" ∷ "prop=a" ∷ "prop=a" ∷ "prop=a" ∷ "rule=r:A" ∷ []);
+      number = 1;
+      line = 8;
+      other = 9;
+      otherLine = 9;
+    }
+    -- 1 and 3: a property behind a rule, where the second rule line is due, and a rule without a name
+    ∷ record {
+      text = endedLines ("vars=1" ∷ "rules=3" ∷ "init=a" ∷ "prop=a" ∷ "rule=r:A" ∷ "prop=a" ∷ "rule=:A" ∷ []);
+      number = 1;
+      line = 6;
+      other = 3;
+      otherLine = 7;
+    }
+    -- 1 and 1: the second property has no byte 10 at its end, and the rule line is missing
+    ∷ record { text = endedLines ("vars=1" ∷ "rules=1" ∷ "init=a" ∷ "prop=a" ∷ []) ++ bytes "prop=a"; number = 1; line = 5; other = 1; otherLine = 6 }
+    -- 7 and 8, on one line: a letter beyond N in the second property
+    ∷ record { text = endedLines ("vars=2" ∷ "rules=1" ∷ "init=a" ∷ "prop=a" ∷ "prop=&c" ∷ []); number = 7; line = 5; other = 8; otherLine = 5 }
+    -- 8 and 3: the second property is two expressions, and the rule has no proper name
+    ∷ record {
+      text = endedLines ("vars=1" ∷ "rules=1" ∷ "init=a" ∷ "prop=a" ∷ "prop=aa" ∷ "rule=R:A" ∷ []);
+      number = 8;
+      line = 5;
+      other = 3;
+      otherLine = 6;
+    }
+    -- 8 and 9, with two properties: a fault in the last rule line, and bytes behind it
+    ∷ record {
+      text = endedLines ("vars=1" ∷ "rules=1" ∷ "init=a" ∷ "prop=a" ∷ "prop=1" ∷ "rule=r:&A" ∷ "" ∷ []);
+      number = 8;
+      line = 6;
+      other = 9;
+      otherLine = 7;
+    }
     ∷ []
 
 -- What is proved of a row.

@@ -11,10 +11,11 @@ use Rattle.lines.specs.declared.names.RuleLine.{RuleLine}
 use Rattle.lines.specs.declared.names.RuleLine.the-variants.{RuleFault, RuleRead}
 use Rattle.lines.specs.declared.names.RuleParts.{RuleParts}
 use Rattle.lines.specs.Lines.{countLine, stateLine, ruleLine, isTaken, varsKey, rulesKey, initKey, propKey}
+use Rattle.models.specs.Properties.{propertyCount}
 use Rattle.models.specs.declared.model.Outcome.the-variants.{Accepted, Refused}
-use Rattle.models.specs.declared.model.LineStart.{LineStart}
+use Rattle.models.specs.declared.progress.LineStart.{LineStart}
 use Rattle.models.specs.declared.model.Reading.{Reading}
-use Rattle.models.specs.declared.model.Rules.{Rules}
+use Rattle.models.specs.declared.progress.Progress.{Progress}
 
 -- ---- the lines one after the other
 
@@ -26,34 +27,63 @@ textStart = record { at = 0; line = 1 }
 unfoldable pub behindLine : LineStart → ℕ → LineStart
 behindLine p bytes = record { at = p .at + bytes; line = p .line + 1 }
 
+-- ---- the lines behind `init`
+
+-- before the first property line
+unfoldable pub noneRead : LineStart → Progress
+noneRead p = record { number = 0; place = p; props = replicate 4 0; names = replicate 16 0; steps = replicate 16 0 }
+
+-- where the line that is due is refused
+unfoldable pub withFault : Progress → ℕ → Progress
+withFault r number = record { number = number; place = r .place; props = r .props; names = r .names; steps = r .steps }
+
+-- ---- the property lines
+
+-- with property j, which stands at this place, before a line at the place p
+unfoldable pub withProperty : Progress → ℕ → ℕ → LineStart → Progress
+withProperty r j at p = record { number = 0; place = p; props = set (r .props) j at; names = r .names; steps = r .steps }
+
+-- what a line gives for property j
+unfoldable pub propertied : ℕ → Progress → Line → Progress
+unfolding withFault withProperty behindLine
+propertied j r (Fault number) = withFault r number
+propertied j r (Read v bytes) = withProperty r j (r .place .at + v) (behindLine (r .place) bytes)
+
+-- the line of property j, unless an earlier one was refused
+unfoldable pub nextProperty : List ℕ → ℕ → ℕ → Progress → Progress
+unfolding propertied stateLine
+nextProperty text n j r = cond (eqb (r .number) 0) (propertied j r (stateLine propKey n (drop (r .place .at) text))) r
+
+-- the first so many property lines, from a place on
+unfoldable pub propertiesRead : List ℕ → ℕ → LineStart → ℕ → Progress
+unfolding noneRead nextProperty
+propertiesRead text n p zero = noneRead p
+propertiesRead text n p (suc j) = nextProperty text n j (propertiesRead text n p j)
+
 -- ---- the rule lines
 
--- before the first rule line
-unfoldable pub noRules : LineStart → Rules
-noRules p = record { number = 0; place = p; names = replicate 16 0; steps = replicate 16 0 }
-
 -- with rule i, whose parts stand at these places, before a line at the place p
-unfoldable pub withRule : Rules → ℕ → RuleParts → LineStart → Rules
-withRule r i parts p = record { number = 0; place = p; names = set (r .names) i (parts .name); steps = set (r .steps) i (parts .step) }
+unfoldable pub withRule : Progress → ℕ → RuleParts → LineStart → Progress
+withRule r i parts p = record { number = 0; place = p; props = r .props; names = set (r .names) i (parts .name); steps = set (r .steps) i (parts .step) }
 
 -- what a line gives for rule i
-unfoldable pub ruled : ℕ → Rules → RuleLine → Rules
-unfolding withRule behindLine
-ruled i r (RuleFault number) = record { number = number; place = r .place; names = r .names; steps = r .steps }
+unfoldable pub ruled : ℕ → Progress → RuleLine → Progress
+unfolding withFault withRule behindLine
+ruled i r (RuleFault number) = withFault r number
 ruled i r (RuleRead parts bytes) = withRule r i parts (behindLine (r .place) bytes)
 
--- the line of rule i, unless an earlier one was refused
-unfoldable pub nextRule : List ℕ → ℕ → ℕ → Rules → Rules
+-- the line of rule i, unless an earlier line was refused
+unfoldable pub nextRule : List ℕ → ℕ → ℕ → Progress → Progress
 unfolding ruled ruleLine isTaken
 nextRule text n i r =
     let at = r .place .at in
     cond (eqb (r .number) 0) (ruled i r (ruleLine n (isTaken text (r .names) (r .steps) i) at (drop at text))) r
 
--- the first so many rule lines, from a place on
-unfoldable pub rulesRead : List ℕ → ℕ → LineStart → ℕ → Rules
-unfolding noRules nextRule
-rulesRead text n p zero = noRules p
-rulesRead text n p (suc i) = nextRule text n i (rulesRead text n p i)
+-- the first so many rule lines, behind the property lines
+unfoldable pub rulesRead : List ℕ → ℕ → Progress → ℕ → Progress
+unfolding nextRule
+rulesRead text n r zero = r
+rulesRead text n r (suc i) = nextRule text n i (rulesRead text n r i)
 
 -- ---- the whole text
 
@@ -61,7 +91,7 @@ rulesRead text n p (suc i) = nextRule text n i (rulesRead text n p i)
 unfoldable pub refusedReading : ℕ → ℕ → Reading
 refusedReading number line = record {
   outcome = Refused number line;
-  model = record { vars = 0; rules = 0; init = 0; prop = 0; names = replicate 16 0; steps = replicate 16 0 };
+  model = record { vars = 0; rules = 0; init = 0; properties = 0; props = replicate 4 0; names = replicate 16 0; steps = replicate 16 0 };
 }
 
 -- what follows a line at the place p, unless it is refused
@@ -76,24 +106,24 @@ unfolding following
 onLine text p read next = following p (read (drop (p .at) text)) next
 
 -- after the last rule line: number 9 where bytes follow
-unfoldable pub finished : List ℕ → ℕ → ℕ → ℕ → ℕ → Rules → Reading
+unfoldable pub finished : List ℕ → ℕ → ℕ → ℕ → ℕ → Progress → Reading
 unfolding refusedReading
-finished text vars rules init prop r =
+finished text vars rules init properties r =
     cond (eqb (r .number) 0)
     (cond (ltb (r .place .at) (length text))
     (refusedReading 9 (r .place .line))
     (record {
       outcome = Accepted;
-      model = record { vars = vars; rules = rules; init = init; prop = prop; names = r .names; steps = r .steps };
+      model = record { vars = vars; rules = rules; init = init; properties = properties; props = r .props; names = r .names; steps = r .steps };
     }))
     (refusedReading (r .number) (r .place .line))
 
 -- the reading of a text
 unfoldable pub readModel : List ℕ → Reading
-unfolding onLine countLine stateLine finished rulesRead
+unfolding onLine countLine stateLine propertyCount propertiesRead rulesRead finished
 readModel text =
     onLine text textStart (countLine varsKey 7) λ vars p₂.
     onLine text p₂ (countLine rulesKey 16) λ rules p₃.
     onLine text p₃ (stateLine initKey vars) λ init p₄.
-    onLine text p₄ (stateLine propKey vars) λ prop p₅.
-    finished text vars rules (p₃ .at + init) (p₄ .at + prop) (rulesRead text vars p₅ rules)
+    let properties = propertyCount (drop (p₄ .at) text) in
+    finished text vars rules (p₃ .at + init) properties (rulesRead text vars (propertiesRead text vars p₄ properties) rules)

@@ -1,12 +1,11 @@
 -- When a text is refused: the numbers 1 to 9 as document 01, "When a call is turned away", lists them, each with the lines where it fits, and the
 -- one that comes first. `Rattle.models.specs.Refused` shows that the reading answers with this one. From document 01, "The model text" and
--- "When a call is turned away". Assumes nothing: these are definitions.
+-- "When a call is turned away", and document 02, "Several properties together". Assumes nothing: these are definitions.
 use Prim.Native.Nat.{ℕ, zero, suc, _+_, _-_, _≤_, _<_}
 use mathlib.Core.Path.{_≡_}
 use mathlib.Core.Logic.{_≢_, _⊎_}
-use mathlib.Core.Bool.{Bool, true, false, cond}
+use mathlib.Core.Bool.{Bool, true, false}
 use mathlib.Core.List.{List, [], _∷_, _++_, List·Memᴰ}
-use lib.Dec.{eqb}
 use lib.ListN.{length, drop}
 use Rattle.exprs.specs.Expr.{Expr, written, Letters}
 use Rattle.lines.specs.declared.classes.Class.the-variants.{InName}
@@ -14,13 +13,9 @@ use Rattle.lines.specs.Bytes.{bytes}
 use Rattle.lines.specs.Decimal.{decimal}
 use Rattle.lines.specs.Lines.{varsKey, rulesKey, initKey, propKey, ruleKey, all}
 use Rattle.lines.specs.Written.{Within}
+use Rattle.models.specs.Properties.{afterLine, propertyCount}
 
 -- ---- the lines of a text
-
--- what follows the first byte 10
-unfoldable pub afterLine : List ℕ → List ℕ
-afterLine [] = []
-afterLine (b ∷ s) = cond (eqb b 10) s (afterLine s)
 
 -- what follows the first n lines
 unfoldable pub afterLines : ℕ → List ℕ → List ℕ
@@ -45,10 +40,15 @@ pub data CountLine : ℕ → List ℕ → ℕ → Type 0 where
   vars-line : CountLine 1 varsKey 7
   rules-line : CountLine 2 rulesKey 16
 
--- Lines 3 and 4 hold the expressions `init` and `prop`.
-pub data StateLine : ℕ → List ℕ → Type 0 where
-  init-line : StateLine 3 initKey
-  prop-line : StateLine 4 propKey
+-- The first rule line follows the property lines, of which the first is line 4.
+unfoldable pub firstRuleLine : List ℕ → ℕ
+unfolding afterLines propertyCount
+firstRuleLine text = 4 + propertyCount (afterLines 3 text)
+
+-- Line 3 holds the expression `init`, and each line from there to the first rule line a property.
+pub data StateLine (text : List ℕ) : ℕ → List ℕ → Type 0 where
+  init-line : StateLine text 3 initKey
+  prop-line : {k : ℕ} → 4 ≤ k → k < firstRuleLine text → StateLine text k propKey
 
 -- Line k gives the count n, which is written in base ten and in its range.
 pub record GivesCount (text : List ℕ) (k : ℕ) (key : List ℕ) (most n : ℕ) : Type 0 where
@@ -62,17 +62,17 @@ IsN text n = GivesCount text 1 varsKey 7 n
 abbrev pub IsR : List ℕ → ℕ → Type 0
 IsR text r = GivesCount text 2 rulesKey 16 r
 
--- Line k is one of the R rule lines, of which the first is line 5.
+-- Line k is one of the R rule lines.
 pub record IsRuleLine (text : List ℕ) (k : ℕ) : Type 0 where
   pub R : ℕ
   pub count : IsR text R
-  pub least : 5 ≤ k
-  pub most : k ≤ R + 4
+  pub least : firstRuleLine text ≤ k
+  pub most : k < firstRuleLine text + R
 
 -- Line k is due, with this key.
 pub data Due (text : List ℕ) : ℕ → List ℕ → Type 0 where
   count-due : {k : ℕ} {key : List ℕ} {most : ℕ} → CountLine k key most → Due text k key
-  state-due : {k : ℕ} {key : List ℕ} → StateLine k key → Due text k key
+  state-due : {k : ℕ} {key : List ℕ} → StateLine text k key → Due text k key
   rule-due : {k : ℕ} → IsRuleLine text k → Due text k ruleKey
 
 -- ---- the parts of a line
@@ -90,7 +90,7 @@ pub record HasName (text : List ℕ) (k : ℕ) (name e : List ℕ) : Type 0 wher
 
 -- e stands in line k where an expression is due, in `init` and `prop` without and in a rule with capital letters.
 pub data Expression (text : List ℕ) : ℕ → Bool → List ℕ → Type 0 where
-  of-state : {k : ℕ} {key e : List ℕ} → StateLine k key → HasValue text k key e → Expression text k false e
+  of-state : {k : ℕ} {key e : List ℕ} → StateLine text k key → HasValue text k key e → Expression text k false e
   of-rule : {k : ℕ} {name e : List ℕ} → HasName text k name e → Expression text k true e
 
 -- `a` to `g` and `A` to `G`
@@ -129,8 +129,8 @@ pub data FitsAt (text : List ℕ) : (number line : ℕ) → Type 0 where
   letter-capital : {k : ℕ} {e : List ℕ} {b : ℕ} → Expression text k false e → List·Memᴰ b e → List·Memᴰ b capitalLetters → FitsAt text 7 k
   -- 8. "It isn't exactly one expression." It is the written form of none, with letters a to g and A to G.
   not-one : {k : ℕ} {capitals : Bool} {e : List ℕ} → Expression text k capitals e → ((t : Expr) → Letters 7 t → e ≢ written t) → FitsAt text 8 k
-  -- 9. "Bytes follow the last rule line (line R + 5)."
-  bytes-follow : {r : ℕ} → IsR text r → afterLines (r + 4) text ≢ [] → FitsAt text 9 (r + 5)
+  -- 9. "Bytes follow the last rule line." It names the line behind that, "wherever that now falls".
+  bytes-follow : {r : ℕ} → IsR text r → afterLines (firstRuleLine text + r - 1) text ≢ [] → FitsAt text 9 (firstRuleLine text + r)
 
 -- ---- the order
 

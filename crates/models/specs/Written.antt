@@ -19,12 +19,16 @@ use Rattle.models.specs.Reading.{readModel}
 
 -- ---- what a model consists of
 
--- N, the expressions of `init` and `prop`, and the rules in their order
+-- N, the expression of `init`, the properties in their order, and the rules in theirs
 pub record Described : Type 0 where
   pub vars : ℕ
   pub init : Expr
-  pub prop : Expr
+  pub props : List Expr
   pub rules : List Rule
+
+-- the property at place j, where the first has place 0
+abbrev pub propertyAt : List Expr → ℕ → Expr
+propertyAt props j = getD props j (constant false)
 
 -- the rule at place i, where the first has place 0
 abbrev pub ruleAt : List Rule → ℕ → Rule
@@ -37,25 +41,31 @@ namesOf M S = kept S (map (λ r. r .name) (M .rules))
 
 -- ---- when it is legal
 
--- N is 1 to 7, there are 1 to 16 rules, each part is legal, and no two rules have the same name
+-- N is 1 to 7, there are 1 to 4 properties and 1 to 16 rules, each part is legal, and no two rules have the same name
 pub record Legal (M : Described) : Type 0 where
   pub vars : Within 1 7 (M .vars)
+  pub properties : Within 1 4 (length (M .props))
   pub count : Within 1 16 (length (M .rules))
   pub init : LegalExpr (M .vars) false (M .init)
-  pub prop : LegalExpr (M .vars) false (M .prop)
+  pub props : (j : ℕ) → j < length (M .props) → LegalExpr (M .vars) false (propertyAt (M .props) j)
   pub rules : (i : ℕ) → i < length (M .rules) → LegalRule (M .vars) (ruleAt (M .rules) i)
   pub names : (i j : ℕ) → i < j → j < length (M .rules) → ruleAt (M .rules) i .name ≢ ruleAt (M .rules) j .name
 
 -- ---- its written form
 
+-- a property line: `prop=` and an expression
+unfoldable pub writtenProperty : Expr → List ℕ
+unfolding line written
+writtenProperty e = line propKey (written e)
+
 -- the lines in order
 unfoldable pub writtenModel : Described → List ℕ
-unfolding line decimal written flatMap writtenRule
+unfolding line decimal written flatMap writtenProperty writtenRule
 writtenModel M =
     line varsKey (decimal (M .vars))
     ++ line rulesKey (decimal (length (M .rules)))
     ++ line initKey (written (M .init))
-    ++ line propKey (written (M .prop))
+    ++ flatMap writtenProperty (M .props)
     ++ flatMap writtenRule (M .rules)
 
 -- ---- the model that a text tells
@@ -70,6 +80,11 @@ unfoldable pub exprAt : List ℕ → ℕ → Expr
 unfolding orFalse readExpr
 exprAt text at = orFalse (readExpr (drop at text))
 
+-- the property j of a text whose parts stand at the places m
+unfoldable pub propertyIn : List ℕ → Model → ℕ → Expr
+unfolding exprAt
+propertyIn text m j = exprAt text (getD (m .props) j 0)
+
 -- the rule i of a text whose parts stand at the places m
 unfoldable pub ruleIn : List ℕ → Model → ℕ → Rule
 unfolding nameOf exprAt
@@ -77,8 +92,13 @@ ruleIn text m i = record { name = nameOf text (m .names) (m .steps) i; step = ex
 
 -- the model of a text whose parts stand at the places m
 unfoldable pub described : List ℕ → Model → Described
-unfolding exprAt ruleIn tabulate
-described text m = record { vars = m .vars; init = exprAt text (m .init); prop = exprAt text (m .prop); rules = tabulate (m .rules) (ruleIn text m) }
+unfolding exprAt propertyIn ruleIn tabulate
+described text m = record {
+  vars = m .vars;
+  init = exprAt text (m .init);
+  props = tabulate (m .properties) (propertyIn text m);
+  rules = tabulate (m .rules) (ruleIn text m);
+}
 
 -- the model that a text is read as
 unfoldable pub modelIn : List ℕ → Described

@@ -1,14 +1,18 @@
--- The sections of a report, as bytes: the lines of the verdict, of the kinds of rules and of a list. From document 01, "The report": each line is
--- ended by byte 10. Assumes nothing: these are definitions.
+-- The sections of a report, as bytes: the lines of the verdicts, of the kinds of rules and of a list. From document 01, "The report", and
+-- document 02, "Several properties together": each line is ended by byte 10. Assumes nothing: these are definitions.
 use Prim.Native.Nat.{ℕ}
 use mathlib.Core.Bool.{Bool, cond}
 use mathlib.Core.List.{List, [], _∷_, _++_, flatMap}
 use lib.ListN.{length}
+use Rattle.sets.specs.Bit.{full}
+use Rattle.sets.specs.Tabulated.{tabulate}
 use Rattle.lines.specs.Bytes.{bytes}
 use Rattle.lines.specs.Written.{line}
 use Rattle.models.specs.Written.{Described, ruleAt, namesOf}
+use Rattle.models.specs.Changed.{byProperty}
 use Rattle.systems.specs.System.{System}
 use Rattle.systems.specs.Verdict.{holds, traceOf}
+use Rattle.semantics.specs.Meaning.{systemOf}
 use Rattle.sorting.specs.declared.which.WhichList.{WhichList}
 use Rattle.sorting.specs.declared.which.WhichList.the-variants.{Cores, Cuts}
 use Rattle.sorting.specs.declared.kinds.Kind.the-variants.{Must, May, Irrelevant}
@@ -40,6 +44,14 @@ unfolding line numberLine holds traceOf flatMap
 verdictLines N =
     cond (holds N) (line (bytes "verdict=") (bytes "holds"))
     (line (bytes "verdict=") (bytes "broken") ++ flatMap (numberLine (bytes "state=")) (traceOf N))
+
+-- the verdict on the full set by property j alone, with its own trace
+unfoldable pub verdictBy : Described → ℕ → List ℕ
+verdictBy M j = verdictLines (systemOf (byProperty j M) (full (length (M .rules))))
+
+-- the verdict by each property, in the text's order
+unfoldable pub verdictsOf : Described → List ℕ
+verdictsOf M = flatMap (verdictBy M) (tabulate (length (M .props)) (λ j. j))
 
 -- `must=`, `may=` and `irr=`: the rules of each kind, of those that h judges
 unfoldable pub kindLines : Described → (ℕ → Bool) → List ℕ

@@ -10,6 +10,7 @@ use Rattle.sets.specs.Gathered.{setOf}
 use Rattle.sets.specs.Tabulated.{tabulate}
 use Rattle.exprs.specs.Expr.{value}
 use Rattle.models.specs.Written.{exprAt}
+use Rattle.semantics.specs.Meaning.{every}
 
 -- ---- at two states
 
@@ -17,6 +18,11 @@ use Rattle.models.specs.Written.{exprAt}
 unfoldable pub meets : List ℕ → ℕ → ℕ → ℕ → Bool
 unfolding value exprAt
 meets text place s t = value (exprAt text place) s t
+
+-- The state s meets each of the expressions that stand at these places.
+unfoldable pub meetsAll : (text places : List ℕ) → ℕ → Bool
+unfolding every meets
+meetsAll text places s = every (length places) (λ j. meets text (getD places j 0) s s)
 
 -- The set of the rules that a pair of states meets, where rule i stands at the place `steps` i of the text.
 unfoldable pub maskBy : (text steps : List ℕ) (rules : ℕ) → ℕ → ℕ → ℕ

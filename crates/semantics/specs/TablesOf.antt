@@ -41,8 +41,13 @@ tablesOf M = record { rules = length (M .rules); states = 2 ^ M .vars; start = m
 
 -- ---- where they go
 
--- The model is no larger than the arrays, and there is room for its masks.
-pub record RoomFor (m : Model) (masks : List ℕ) : Type 0 where
+-- The model is no larger than the arrays: at most 7 letters, 16 rules and 4 properties.
+pub record Few (m : Model) : Type 0 where
   pub vars : m .vars ≤ 7
   pub rules : m .rules ≤ 16
+  pub properties : m .properties ≤ 4
+
+-- There is room for its masks, too.
+pub record RoomFor (m : Model) (masks : List ℕ) : Type 0 where
+  pub few : Few m
   pub room : 128 * 2 ^ m .vars ≤ length masks

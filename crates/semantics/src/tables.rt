@@ -4,7 +4,7 @@ ghost use mathlib.Core.Bool.{Bool·beq};
 ghost use Prim.Native.Nat.{_^_, _≤_};
 ghost use Rattle.models.specs.Written.{described};
 ghost use Rattle.semantics.specs.TablesOf.{marksOf, masksOf, tablesOf, RoomFor};
-ghost use Rattle.semantics.specs.Places.{meets};
+ghost use Rattle.semantics.specs.Places.{meetsAll};
 use models::model::Model;
 use systems::tables::Tables;
 
@@ -16,15 +16,28 @@ fn state_count(vars: usize) -> usize
     1 << vars
 }
 
-// The marks of the states at which the expression at a place has the wanted value.
-fn marks_of(text: &[u8], place: usize, states: usize, wanted: bool) -> [bool; 128]
+// Whether a state meets each of the expressions that stand at these places of the text.
+fn meets_all(text: &[u8], places: &[usize], s: usize) -> bool
+    ensures { λ r. ⌜ r ≡ meetsAll (now (text .entry)) (now (places .entry)) s ⌝ }
+{
+    let mut met = true;
+    let mut j = 0;
+    while j < places.len() {
+        met = met & crate::values::is_met(text, places[j], s, s);
+        j += 1;
+    }
+    met
+}
+
+// The marks of the states of which it is as wanted that they meet each of the expressions at these places.
+fn marks_of(text: &[u8], places: &[usize], states: usize, wanted: bool) -> [bool; 128]
     requires { ⌜ states ≤ 128 ⌝ }
-    ensures { λ r. ⌜ r ≡ marksOf states (λ s. Bool·beq (meets (now (text .entry)) place s s) wanted) ⌝ }
+    ensures { λ r. ⌜ r ≡ marksOf states (λ s. Bool·beq (meetsAll (now (text .entry)) (now (places .entry)) s) wanted) ⌝ }
 {
     let mut marks = [false; 128];
     let mut s = 0;
     while s < states {
-        marks[s] = crate::values::is_met(text, place, s, s) == wanted;
+        marks[s] = meets_all(text, places, s) == wanted;
         s += 1;
     }
     marks
@@ -39,8 +52,10 @@ pub fn fill(text: &[u8], m: Model, masks: &mut [u16]) -> Tables
     let states = state_count(m.vars);
     let steps = m.steps;
     crate::masks::fill_masks(text, &steps, m.rules, states, masks);
-    let start = marks_of(text, m.init, states, true);
-    let bad = marks_of(text, m.prop, states, false);
+    let init = [m.init];
+    let props = m.props;
+    let start = marks_of(text, &init[..], states, true);
+    let bad = marks_of(text, &props[..m.properties], states, false);
     Tables {
         rules: m.rules,
         states,

@@ -23,3 +23,4 @@ pub mod Kinds
 pub mod Kept
 pub mod OneList
 pub mod Renumbered
+pub mod Joint

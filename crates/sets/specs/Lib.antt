@@ -11,4 +11,5 @@ pub mod Kinds
 pub mod Kept
 pub mod Renumbered
 pub mod Demand3
+pub mod Joint
 pub mod Laws

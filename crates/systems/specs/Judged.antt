@@ -5,13 +5,12 @@ use mathlib.Core.Path.{_≡_, ap}
 use mathlib.Core.Logic.{_↔_, ⊎-elim}
 use mathlib.Core.Bool.{true, false}
 use mathlib.Core.List.{List, []}
-use mathlib.Mathlib.Data.Bool.Basic.{dichotomy, eq-false-of-not-eq-true}
+use mathlib.Mathlib.Data.Bool.Basic.{dichotomy}
 use native.Mathlib.Omega.{arith}
 use lib.ListN.{length}
 use Rattle.systems.specs.System.{System, Holds, Trace}
 use Rattle.systems.specs.Verdict.{holds, traceOf}
-use Rattle.systems.specs.Laws.Walks.{holds-no-breach}
-use Rattle.systems.specs.Laws.Holds.{holds-iff, traceOf-held, traceOf-broken, depth-broken, length-trace, greedy-trace, trace-only}
+use Rattle.systems.specs.Laws.Holds.{holds-iff, breach-broken, traceOf-held, traceOf-broken, depth-broken, length-trace, greedy-trace, trace-only}
 
 -- What the verdict and the trace of a system are.
 pub record Judged (M : System) : Type 0 where
@@ -27,16 +26,13 @@ judged M = record {
   verdict = holds-iff M;
   held = traceOf-held M;
   broken = trace;
-  only = λ l t. trace-only l (traceOf M) t (trace (not-held l t));
+  only = λ l t. trace-only l (traceOf M) t (trace (breach-broken (t .breach)));
   at-least-one = λ e. trace e .breach .walk .nonempty;
   at-most-size = ⊎-elim short (λ e. omega (arith, ap length (traceOf-held M e))) (dichotomy (holds M));
 }
   where
     trace : holds M ≡ false → Trace M (traceOf M)
     trace e = rw (traceOf-broken M) (greedy-trace M (depth-broken M e))
-
-    not-held : (l : List ℕ) → Trace M l → holds M ≡ false
-    not-held l t = eq-false-of-not-eq-true (λ e. holds-no-breach (holds-iff M .0 e) l (t .breach))
 
     short : holds M ≡ false → length (traceOf M) ≤ M .size
     short e = omega (arith, length-trace M e, depth-broken M e)

@@ -63,7 +63,7 @@ impl Reason {
             Reason::Byte => "It has a byte other than `0`, `1`, `!`, `&`, `|`, `>`, `=`, a to g and A to G.",
             Reason::Letter => "It has a letter beyond the first N, or a capital letter in `init` or `prop`.",
             Reason::NotOne => "It isn't exactly one expression.",
-            Reason::BytesFollow => "Bytes follow the last rule line (line R + 5).",
+            Reason::BytesFollow => "Bytes follow the last rule line (the line after it).",
             Reason::NoSuchSet => "The judged set is 2^R or more (line 0).",
             Reason::TooFewBytes => "The lent bytes are fewer than this answer's trace or list needs (line 0).",
             Reason::OddList => "A list has an odd count of bytes (line 0).",

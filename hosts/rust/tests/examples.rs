@@ -1,4 +1,5 @@
-//! Every example at the edges that the request lists, asked of the library and of the plain search.
+//! Every example at the edges that the request lists, and examples of several properties worked out by hand, asked of the
+//! library and of the plain search.
 
 #![deny(warnings)]
 
@@ -180,6 +181,94 @@ fn one_rule_once_and_twice() {
 fn two_steps_to_a_bad_state() {
     expect_judged(LATCH, &[(3, None), (2, Some(&[0, 1, 2])), (1, Some(&[0, 2])), (0, Some(&[0, 2]))]);
     expect_lists(LATCH, &[3], &[1, 2], Kinds(3, 0, 0));
+}
+
+/// Two bits that start as 0, with these properties and rules.
+fn two_bits(properties: &[&str], rules: &[&str]) -> String {
+    let mut text = format!("vars=2\nrules={}\ninit=&!a!b\n", rules.len());
+    for property in properties {
+        text += &format!("prop={property}\n");
+    }
+    for (place, rule) in rules.iter().enumerate() {
+        text += &format!("rule=r{place}:{rule}\n");
+    }
+    text
+}
+
+/// The trace ends at the first breach of any property: a shorter one by a later property, and of two that are as short the
+/// one with the smaller state, in whatever order the properties stand.
+#[test]
+fn the_first_breach_of_any_property() {
+    let counter = ["=A!a", "=B!=ba"];
+    for (property, trace) in [("!&ab", &[0, 1, 2, 3][..]), ("!b", &[0, 1, 2]), ("!a", &[0, 1])] {
+        expect_judged(&two_bits(&[property], &counter), &[(3, Some(trace))]);
+    }
+    expect_judged(&two_bits(&["!&ab", "!b"], &counter), &[(3, Some(&[0, 1, 2]))]);
+    expect_judged(&two_bits(&["!b", "!&ab"], &counter), &[(3, Some(&[0, 1, 2]))]);
+    expect_judged(&two_bits(&["!&ab", "1", "!b", "!a"], &counter), &[(3, Some(&[0, 1]))]);
+    expect_judged(&two_bits(&["!b", "!a"], &["1"]), &[(0, Some(&[0, 1])), (1, Some(&[0, 1]))]);
+    expect_judged(&two_bits(&["!a", "!b"], &["1"]), &[(0, Some(&[0, 1])), (1, Some(&[0, 1]))]);
+}
+
+/// A set holds if it holds for each property: `r0` keeps the one, `r1` the other.
+#[test]
+fn a_set_that_holds_for_each_property() {
+    let text = two_bits(&["!a", "!b"], &["=Aa", "=Bb"]);
+    expect_judged(&text, &[(0, Some(&[0, 1])), (1, Some(&[0, 2])), (2, Some(&[0, 1])), (3, None)]);
+    expect_lists(&two_bits(&["!a"], &["=Aa", "=Bb"]), &[1], &[1], Kinds(1, 0, 2));
+    expect_lists(&two_bits(&["!b"], &["=Aa", "=Bb"]), &[2], &[2], Kinds(2, 0, 1));
+    expect_lists(&text, &[3], &[1, 2], Kinds(3, 0, 0));
+}
+
+/// The cores of the one are 1 and 4, of the other 2 and 4. Of their unions 3, 4, 5 and 6 the last two have 4 as a proper part.
+#[test]
+fn a_union_with_another_as_a_proper_part() {
+    let rules = ["!A", "!B", "!|AB"];
+    expect_lists(&two_bits(&["!a"], &rules), &[1, 4], &[5], Kinds(0, 5, 2));
+    expect_lists(&two_bits(&["!b"], &rules), &[2, 4], &[6], Kinds(0, 6, 1));
+    expect_lists(&two_bits(&["!a", "!b"], &rules), &[4, 3], &[5, 6], Kinds(0, 7, 0));
+}
+
+/// Four that no rule is needed for, three of them beside one that no set keeps, and beside one that a rule keeps.
+#[test]
+fn four_properties_at_the_edges() {
+    expect_lists(&two_bits(&["1", "1", "1", "1"], &["1"]), &[0], &[], Kinds(0, 0, 1));
+    for place in 0..4 {
+        let mut properties = ["1"; 4];
+        properties[place] = "0";
+        expect_judged(&two_bits(&properties, &["0"]), &[(0, Some(&[0])), (1, Some(&[0]))]);
+        expect_lists(&two_bits(&properties, &["0"]), &[], &[0], Kinds(0, 0, 1));
+        properties[place] = "!b";
+        expect_judged(&two_bits(&properties, &["!B"]), &[(0, Some(&[0, 2])), (1, None)]);
+        expect_lists(&two_bits(&properties, &["!B"]), &[1], &[1], Kinds(1, 0, 0));
+    }
+}
+
+/// Texts with these lines between `init` and `rule=r:1`, and the line after it.
+#[test]
+fn refused_property_lines() {
+    let with = |lines: &str, after: &str| format!("vars=1\nrules=1\ninit=1\n{lines}rule=r:1\n{after}");
+    for count in 1..=4 {
+        let before = "prop=a\n".repeat(usize::from(count) - 1);
+        let line = count + 3;
+        expect_accepted(&with(&(before.clone() + "prop=a\n"), ""));
+        expect_refused(&format!("vars=1\nrules=1\ninit=1\n{before}prop=a"), Reason::LineDue, line);
+        expect_refused(&with(&(before.clone() + "prop=\n"), ""), Reason::ExpressionLength, line);
+        expect_refused(&with(&(before.clone() + "prop=h\n"), ""), Reason::Byte, line);
+        expect_refused(&with(&(before.clone() + "prop=A\n"), ""), Reason::Letter, line);
+        expect_refused(&with(&(before.clone() + "prop=b\n"), ""), Reason::Letter, line);
+        expect_refused(&with(&(before.clone() + "prop=aa\n"), ""), Reason::NotOne, line);
+        expect_refused(&with(&(before.clone() + "prop\n"), ""), Reason::LineDue, line);
+        expect_refused(&with(&(before.clone() + "init=a\n"), ""), Reason::LineDue, line);
+        expect_refused(&with(&(before.clone() + "prop=a\n"), "\n"), Reason::BytesFollow, line + 2);
+        expect_refused(&with(&(before.clone() + "prop=a\n"), "prop=a\n"), Reason::BytesFollow, line + 2);
+    }
+    expect_refused(&with("", ""), Reason::LineDue, 4);
+    for fifth in ["prop=a\n", "prop=\n", "prop=A\n", "prop=a"] {
+        expect_refused(&with(&("prop=a\n".repeat(4) + fifth), ""), Reason::LineDue, 8);
+    }
+    expect_refused("vars=1\nrules=1\nprop=a\ninit=1\nrule=r:1\n", Reason::LineDue, 3);
+    expect_refused("vars=1\nrules=2\ninit=1\nprop=a\nrule=r:1\nprop=a\nrule=s:1\n", Reason::LineDue, 6);
 }
 
 /// `motion` and `double` each see the station, `power` alone sees the battery, and nobody relies on `quiet` and `lamp`.

@@ -12,6 +12,7 @@ use codremif_host::plain::answers::list_bytes;
 use codremif_host::random::generator::seed_for;
 use codremif_host::random::lists::{question, random_set, Sharing};
 use codremif_host::random::models::model;
+use codremif_host::random::properties::PropertyCounts;
 use codremif_host::random::Random;
 
 /// What came up, so that a test can demand that everything did.
@@ -104,6 +105,7 @@ fn lists_of_any_content() {
 fn lists_of_models() {
     let mut random = Random::new(seed_for("lists of models", 20_260_602));
     let mut seen = Seen::default();
+    let mut properties = PropertyCounts::default();
     let (mut models, mut many_cores, mut many_cuts) = (0, 0, 0);
     while models < 4_000 {
         let own = Own::of(&mut random);
@@ -115,10 +117,13 @@ fn lists_of_models() {
             assert_eq!(seen.look_up(u32::from(set) | lacking, &lists), Ok(said), "{}", show(&own.text));
         }
         models += 1;
+        properties.note(own.properties);
         many_cores += usize::from(own.cores.len() >= 10);
         many_cuts += usize::from(own.cuts.len() >= 10);
     }
     println!("lists of {models} models, {many_cores} with many cores, {many_cuts} with many cuts: {seen:?}");
+    println!("lists of models: {properties:?}");
+    assert!(properties.fewest() >= 800, "{properties:?}");
     assert!(seen.core_inside >= 20_000 && seen.cut_apart >= 20_000, "{seen:?}");
     assert_eq!(seen.core_inside + seen.cut_apart, seen.tally.asked, "{seen:?}");
     assert!(many_cores >= 200 && many_cuts >= 20, "{many_cores}, {many_cuts}");
@@ -209,6 +214,7 @@ fn a_list_of_200_000_sets() {
 /// A random model with the lists that the library gives of it.
 struct Own {
     text: Vec<u8>,
+    properties: usize,
     full_set: u16,
     cores: Vec<u16>,
     cuts: Vec<u16>,
@@ -221,10 +227,11 @@ impl Own {
             0 => (7, 16),
             _ => (random.pick(&[1, 2, 2, 3, 3, 3, 4]), random.between(1, 12)),
         };
-        let text = model(random, bits, rules).text();
+        let written = model(random, bits, rules);
+        let text = written.text();
         let cores = calls::listed(calls::cores, &text).expect("an accepted model");
         let cuts = calls::listed(calls::cuts, &text).expect("an accepted model");
-        Own { text, full_set: u16::MAX >> (16 - rules), cores, cuts }
+        Own { text, properties: written.properties.len(), full_set: u16::MAX >> (16 - rules), cores, cuts }
     }
 
     fn holds(&self, set: u16) -> bool {

@@ -1,5 +1,5 @@
-//! Random accepted models: verdicts, traces, cores, cuts, MUST, MAY and irrelevant rules of the library against the plain
-//! search.
+//! Random accepted models with one to four properties: verdicts, traces, cores, cuts, MUST, MAY and irrelevant rules of the
+//! library against the plain search.
 
 #![deny(warnings)]
 
@@ -10,6 +10,7 @@ use codremif_host::plain::answers::Answers;
 use codremif_host::plain::sets::minimal;
 use codremif_host::plain::trace::trace;
 use codremif_host::random::generator::seed_for;
+use codremif_host::random::properties::PropertyCounts;
 use codremif_host::random::{models, Random};
 
 /// How many models there are for each R of a test, for N from 1 to 7. A call's time grows with 4^N, so the small models
@@ -37,6 +38,8 @@ fn small_models_with_every_set_judged() {
     assert!(seen.contradictory >= 300 && seen.no_start >= 300 && seen.no_successor >= 300, "{seen:?}");
     assert!(seen.no_core >= 1000 && seen.empty_core >= 1000 && seen.neither >= 1000, "{seen:?}");
     assert!(seen.all_kinds >= 200 && seen.irrelevant_beside_core >= 2000, "{seen:?}");
+    assert!(seen.properties.fewest() >= 4000 && seen.properties.several() >= 10_000, "{seen:?}");
+    assert!(seen.trace_by_another >= 20_000, "{seen:?}");
 }
 
 #[test]
@@ -44,6 +47,7 @@ fn middling_models_with_a_sample_of_sets_judged() {
     let seen = compare_models("middling models", 20_260_102, 7..=11, MIDDLING);
     assert!(seen.many_cores >= 100, "{seen:?}");
     assert!(seen.contradictory >= 50 && seen.no_start >= 50 && seen.no_successor >= 50, "{seen:?}");
+    assert!(seen.properties.fewest() >= 400 && seen.trace_by_another >= 1000, "{seen:?}");
 }
 
 #[test]
@@ -51,6 +55,7 @@ fn large_models_with_a_sample_of_sets_judged() {
     let seen = compare_models("large models", 20_260_103, 12..=16, LARGE);
     assert!(seen.many_cores >= 100, "{seen:?}");
     assert!(seen.contradictory >= 10 && seen.no_start >= 10 && seen.no_successor >= 10, "{seen:?}");
+    assert!(seen.properties.fewest() >= 80 && seen.trace_by_another >= 200, "{seen:?}");
 }
 
 /// A binary counter that counts from 0 until all bits are set has the longest trace there is: every state once.
@@ -72,6 +77,7 @@ fn counters_of_every_size() {
 #[derive(Debug, Default)]
 struct Seen {
     models: usize,
+    properties: PropertyCounts,
     many_cores: usize,
     most_cores: usize,
     many_cuts: usize,
@@ -86,6 +92,8 @@ struct Seen {
     irrelevant_beside_core: usize,
     judged: usize,
     longest_trace: usize,
+    /// Traces that end in a state which meets the first property.
+    trace_by_another: usize,
     duality_checked: usize,
     tally: Tally,
 }
@@ -128,6 +136,7 @@ fn compare_model(random: &mut Random, seen: &mut Seen, text: &[u8]) {
 fn note_features(seen: &mut Seen, plain: &Answers) {
     let (cores, cuts) = (plain.cores.len(), plain.cuts.len());
     seen.models += 1;
+    seen.properties.note(plain.system.breaking.len());
     seen.many_cores += usize::from(cores >= 10);
     seen.most_cores = seen.most_cores.max(cores);
     seen.many_cuts += usize::from(cuts >= 10);
@@ -215,7 +224,8 @@ fn sets_to_judge(random: &mut Random, plain: &Answers) -> Vec<u16> {
 }
 
 fn compare_judged(seen: &mut Seen, text: &[u8], plain: &Answers, set: u16) {
-    let needed = trace(&plain.system, set).map_or(0, |run| run.len());
+    let run = trace(&plain.system, set).unwrap_or_default();
+    let needed = run.len();
     assert_eq!(
         plain.verdicts.holds(set),
         needed == 0,
@@ -224,6 +234,8 @@ fn compare_judged(seen: &mut Seen, text: &[u8], plain: &Answers, set: u16) {
     );
     seen.judged += 1;
     seen.longest_trace = seen.longest_trace.max(needed);
+    seen.trace_by_another +=
+        usize::from(run.last().is_some_and(|state| !plain.system.breaking[0][usize::from(*state)]));
     let mut lengths = vec![[needed, needed + 1, 128][seen.judged / 3 % 3]];
     if seen.judged.is_multiple_of(4) {
         lengths.extend([needed.saturating_sub(1), 0]);

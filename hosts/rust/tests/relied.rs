@@ -1,5 +1,5 @@
-//! Rules that nobody relies on: two proved facts, tried on random models. The library alone is asked, about a model and about
-//! the same model with rules left out or changed.
+//! Rules that nobody relies on: two proved facts, tried on random models with one to four properties. The library alone is
+//! asked, about a model and about the same model with rules left out or changed.
 
 #![deny(warnings)]
 
@@ -8,6 +8,7 @@ use codremif_host::calls;
 use codremif_host::compare::show;
 use codremif_host::random::generator::seed_for;
 use codremif_host::random::models::model;
+use codremif_host::random::properties::PropertyCounts;
 use codremif_host::random::written::{expression, Written};
 use codremif_host::random::Random;
 
@@ -38,10 +39,11 @@ fn without_the_irrelevant_rules() {
     assert!(seen.several_left_out >= 1000 && seen.several_cores >= 1000, "{seen:?}");
     assert!(seen.all_kinds >= 300 && seen.many_cores >= 500, "{seen:?}");
     assert_eq!((seen.most_bits, seen.most_rules), (7, 16), "{seen:?}");
+    assert!(seen.properties.fewest() >= 1000, "{seen:?}");
 }
 
-/// If the property holds, it does so with any legal expression in place of that of one rule outside MUST. A rule of MUST
-/// shows that it need not be so: with `1` in its place the property is broken.
+/// If the properties hold, they do so with any legal expression in place of that of one rule outside MUST. A rule of MUST
+/// shows that it need not be so: with `1` in its place some property is broken.
 #[test]
 fn another_expression_outside_must() {
     let mut random = Random::new(seed_for("another expression outside MUST", 20_260_502));
@@ -61,6 +63,7 @@ fn another_expression_outside_must() {
     assert!(seen.in_may >= 2000 && seen.irrelevant_beside_core >= 1000, "{seen:?}");
     assert!(seen.in_must >= 1000, "{seen:?}");
     assert!(seen.shortest == 1 && seen.longest == 64, "{seen:?}");
+    assert!(seen.properties.fewest() >= 1000, "{seen:?}");
 }
 
 /// Small ones mostly: a call's time grows with 4^N.
@@ -150,6 +153,7 @@ fn replace_outside_must(random: &mut Random, seen: &mut Replaced, written: &Writ
     let place = random.pick(&outside);
     let other = another(random, written.bits, &written.rules[place].1);
     seen.note(&text, must, place, &other);
+    seen.properties.note(written.properties.len());
     let changed = with_expression(written, place, other);
     assert!(holds(&changed), "held with {} before; {}", written.rules[place].1, show(&changed.text()));
 }
@@ -170,6 +174,7 @@ fn weaken_in_must(random: &mut Random, seen: &mut Replaced, written: &Written) {
 struct LeftOut {
     models: usize,
     compared: usize,
+    properties: PropertyCounts,
     several_left_out: usize,
     several_cores: usize,
     many_cores: usize,
@@ -181,6 +186,7 @@ struct LeftOut {
 impl LeftOut {
     fn note(&mut self, named: &Named, written: &Written) {
         self.compared += 1;
+        self.properties.note(written.properties.len());
         self.several_left_out += usize::from(named.irrelevant.len() >= 2);
         self.several_cores += usize::from(named.cores.len() >= 2);
         self.many_cores += usize::from(named.cores.len() >= 10);
@@ -194,6 +200,7 @@ impl LeftOut {
 #[derive(Debug, Default)]
 struct Replaced {
     models: usize,
+    properties: PropertyCounts,
     broken: usize,
     nothing_outside: usize,
     in_may: usize,

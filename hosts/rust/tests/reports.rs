@@ -13,6 +13,7 @@ use codremif_host::program::Program;
 use codremif_host::random::damage::damaged;
 use codremif_host::random::generator::seed_for;
 use codremif_host::random::models::Kind;
+use codremif_host::random::properties::{with_several_properties, PropertyCounts};
 use codremif_host::random::{models, Random};
 
 const TREMOR: &[u8] = b"vars=3\nrules=3\ninit=!c\nprop=>c&ab\nrule=ra:>CA\nrule=rb:>CB\nrule=vote:>C&AB\n";
@@ -42,7 +43,7 @@ fn sample_models() {
     let program = Program::found();
     let names = names_in_models("txt");
     assert_eq!(names, names_in_models("report"), "each model has a report and each report a model");
-    assert!(names.len() >= 15, "{names:?}");
+    assert!(names.len() >= 19, "{names:?}");
     for name in &names {
         let (text, expected) = (sample(name, "txt"), sample(name, "report"));
         println!("sample models: {name}, {} bytes, report of {} bytes", text.len(), expected.len());
@@ -66,12 +67,38 @@ fn kinds_in_sample_models() {
     }
 }
 
+/// The models that are there for their properties keep what they show.
+#[test]
+fn properties_of_sample_models() {
+    for (name, start) in [
+        ("quiet_release", &b"verdict=holds\nverdict=holds\nmust=mem1\n"[..]),
+        ("late_release", b"verdict=holds\nverdict=broken\nstate=0\nstate=7\nstate=15\nstate=31\nmust=-\n"),
+        (
+            "review",
+            b"verdict=holds\nverdict=broken\nstate=0\nstate=7\nstate=40\nstate=23\n\
+              verdict=holds\nverdict=broken\nstate=0\nstate=7\nmust=-\n",
+        ),
+    ] {
+        assert!(sample(name, "report").starts_with(start), "{name}");
+    }
+    // The one property of `largest` is the conjunction of the four: only the verdicts are more.
+    let four = [&b"verdict=holds\n".repeat(3)[..], &sample("largest", "report")].concat();
+    assert_alike(
+        "report on largest_four",
+        &sample("largest_four", "report"),
+        &four,
+        &sample("largest_four", "txt"),
+    );
+}
+
 /// The models that are there for their size keep it.
 #[test]
 fn sizes_of_sample_models() {
-    assert_eq!(sample("largest", "txt").len(), 1420);
-    assert!(sample("largest", "txt").starts_with(b"vars=7\nrules=16\n"));
-    assert!(count_lines("largest", b"core=") >= 2);
+    for (name, length) in [("largest", 1420), ("largest_four", 1630)] {
+        assert_eq!(sample(name, "txt").len(), length, "{name}");
+        assert!(sample(name, "txt").starts_with(b"vars=7\nrules=16\n"), "{name}");
+        assert!(count_lines(name, b"core=") >= 2, "{name}");
+    }
     assert!(count_lines("many_cores", b"core=") >= 24);
     assert_eq!(count_lines("long_trace", b"state="), 128);
 }
@@ -98,6 +125,8 @@ fn random_models() {
     assert!(seen.no_core >= 50 && seen.empty_core >= 50 && seen.many_cores >= 10, "{seen:?}");
     assert!(seen.must >= 50 && seen.may >= 100 && seen.irrelevant >= 100, "{seen:?}");
     assert!(seen.longest_trace >= 16, "{seen:?}");
+    assert!(seen.properties.fewest() >= 100 && seen.first_holds_alone >= 50, "{seen:?}");
+    assert!(seen.mixed_verdicts >= 100 && seen.unlike_traces >= 50, "{seen:?}");
 }
 
 /// Cores or cuts by the hundred.
@@ -108,8 +137,9 @@ fn long_reports() {
     for turn in 0..30 {
         let kind = [Kind::Alternatives, Kind::Joint, Kind::Dense][turn % 3];
         let (bits, rules) = ([3, 5, 6, 5, 4][turn % 5], 16 - turn % 2);
-        let text = models::model_of(&mut random, kind, bits, rules).text();
-        seen.compare(&text);
+        let mut written = models::model_of(&mut random, kind, bits, rules);
+        with_several_properties(&mut random, &mut written, turn / 3 % 4 + 1);
+        seen.compare(&written.text());
     }
     // Five bits that must stay 0, kept by 4, 3, 3, 3 and 3 rules: 324 cores of 5 rules with names of 8 bytes.
     let mut most = b"vars=5\nrules=16\ninit=!|a|b|c|de\nprop=!|a|b|c|de\n".to_vec();
@@ -119,8 +149,22 @@ fn long_reports() {
     }
     seen.compare(&most);
     println!("long reports: {seen:?}");
+    assert!(seen.properties.fewest() >= 6, "{seen:?}");
     assert!(seen.many_cores >= 10, "{seen:?}");
     assert!(seen.longest_report >= 16_000, "{seen:?}");
+}
+
+/// A counter comes to its last state, the bad one, after every other: as many states as four traces can have.
+#[test]
+fn four_traces_of_128_states() {
+    let mut written = models::full_counter(7);
+    written.properties = vec![written.properties[0].clone(); 4];
+    let trace: String = (0..128).map(|state| format!("state={state}\n")).collect();
+    let verdicts = format!("verdict=broken\n{trace}").repeat(4);
+    let expected = verdicts + "must=-\nmay=-\nirr=a,b,c,d,e,f,g\ncores=0\ncuts=1\ncut=-\n";
+    let text = written.text();
+    assert_alike("plain report", &report(&text), expected.as_bytes(), &text);
+    assert_alike("report program", &Program::found().report(&text), expected.as_bytes(), &text);
 }
 
 /// The program prints pages of 65,536 bytes. models/pages has models whose reports have several: one page too few, twice
@@ -147,8 +191,8 @@ fn reports_of_several_pages() {
 fn randomly_damaged_texts() {
     let mut random = Random::new(seed_for("reports on damaged texts", 20_260_302));
     let mut seen = Seen::new();
-    while seen.refused() < 600 {
-        let (bits, rules) = (random.between(1, 7), random.pick(&[1, 2, 3, 4, 5, 6, 16]));
+    while seen.refused() < 1500 {
+        let (bits, rules) = (random.between(1, 7), random.pick(&[1, 2, 3, 4, 5, 6, 16, 16, 16]));
         let model = models::model(&mut random, bits, rules).text();
         let text = damaged(&mut random, &model);
         // A large model that is still accepted takes its time and is no damaged text.
@@ -160,7 +204,8 @@ fn randomly_damaged_texts() {
     for number in 1..=9 {
         assert!(seen.by_number[number] >= 10, "number {number} came up too seldom: {seen:?}");
     }
-    assert_eq!(seen.last_line, 21, "{seen:?}");
+    assert_eq!(seen.last_line, 24, "{seen:?}");
+    assert!(seen.properties.fewest() >= 5, "{seen:?}");
 }
 
 /// The first 2,048 bytes are judged alone: a line that ends in the last of them ends, and one byte later it does not.
@@ -172,6 +217,9 @@ fn lines_that_end_near_byte_2048() {
         (b"vars=3\n", b"rules=", Reason::Count),
         (b"vars=3\nrules=3\n", b"init=", Reason::ExpressionLength),
         (b"vars=3\nrules=3\ninit=!c\n", b"prop=", Reason::ExpressionLength),
+        (b"vars=3\nrules=3\ninit=!c\nprop=1\n", b"prop=", Reason::ExpressionLength),
+        (b"vars=3\nrules=3\ninit=!c\nprop=1\nprop=1\nprop=1\n", b"prop=", Reason::ExpressionLength),
+        (b"vars=3\nrules=3\ninit=!c\nprop=1\nprop=1\nprop=1\nprop=1\n", b"prop=", Reason::LineDue),
         (&TREMOR[..34], b"rule=", Reason::Name),
         (&TREMOR[..46], b"rule=rb:", Reason::ExpressionLength),
         (&TREMOR[..58], b"rule=ra:", Reason::NameTwice),
@@ -199,7 +247,12 @@ fn lines_that_end_near_byte_2048() {
 #[test]
 fn bytes_after_a_model() {
     let mut seen = Seen::new();
-    for (model, line) in [(TREMOR, 8), (&sample("largest", "txt"), 21)] {
+    for (model, line) in [
+        (TREMOR, 8),
+        (&sample("quiet_release", "txt"), 14),
+        (&sample("largest", "txt"), 21),
+        (&sample("largest_four", "txt"), 24),
+    ] {
         for more in [&b"\n"[..], b"\0", b"r", b"rule=more:1\n", b"\r", b"\xff", model] {
             seen.refused_with(&[model, more].concat(), Refused::new(Reason::BytesFollow, line));
         }
@@ -265,7 +318,9 @@ fn inputs_in_pieces() {
     let pause = Duration::from_millis(1);
     let bytes: Vec<&[u8]> = TREMOR.chunks(1).collect();
     assert_alike("report program", &program.report_in_pieces(&bytes, pause), TREMOR_REPORT, TREMOR);
-    for (name, length) in [("largest", 100), ("largest", 1419), ("hold_off", 7), ("refused", 60)] {
+    for (name, length) in
+        [("largest", 100), ("largest", 1419), ("largest_four", 1629), ("review", 7), ("refused", 60)]
+    {
         let (text, expected) = (sample(name, "txt"), sample(name, "report"));
         let pieces: Vec<&[u8]> = text.chunks(length).collect();
         let printed = program.report_in_pieces(&pieces, 10 * pause);
@@ -283,8 +338,15 @@ struct Seen {
     accepted: usize,
     by_number: [usize; 12],
     last_line: usize,
+    properties: PropertyCounts,
+    /// By every property, and by some property not.
     holds: usize,
     broken: usize,
+    /// By one property and not by another; by the first, and not by all.
+    mixed_verdicts: usize,
+    first_holds_alone: usize,
+    /// Two properties are broken, each by a run of its own.
+    unlike_traces: usize,
     must: usize,
     may: usize,
     irrelevant: usize,
@@ -302,8 +364,12 @@ impl Seen {
             accepted: 0,
             by_number: [0; 12],
             last_line: 0,
+            properties: PropertyCounts::default(),
             holds: 0,
             broken: 0,
+            mixed_verdicts: 0,
+            first_holds_alone: 0,
+            unlike_traces: 0,
             must: 0,
             may: 0,
             irrelevant: 0,
@@ -341,8 +407,7 @@ impl Seen {
             return;
         }
         self.accepted += 1;
-        self.holds += usize::from(after("verdict=") == Some("holds"));
-        self.broken += usize::from(after("verdict=") == Some("broken"));
+        self.note_verdicts(report);
         let has_rules = |key| usize::from(after(key).expect("a set") != "-");
         self.must += has_rules("must=");
         self.may += has_rules("may=");
@@ -350,9 +415,24 @@ impl Seen {
         self.no_core += usize::from(number("cores=") == Some(0));
         self.empty_core += usize::from(after("core=") == Some("-"));
         self.many_cores += usize::from(number("cores=") >= Some(10));
-        let states = report.lines().filter(|line| line.starts_with("state=")).count();
-        self.longest_trace = self.longest_trace.max(states);
         self.longest_report = self.longest_report.max(report.len());
+    }
+
+    fn note_verdicts(&mut self, report: &str) {
+        let (verdicts, _) = report.split_once("must=").expect("a line after the verdicts");
+        let traces: Vec<&str> = verdicts.split("verdict=").skip(1).collect();
+        let held = traces.iter().filter(|trace| **trace == "holds\n").count();
+        let mut broken: Vec<&str> = traces.iter().copied().filter(|trace| *trace != "holds\n").collect();
+        let longest = broken.iter().map(|trace| trace.lines().count() - 1).max().unwrap_or(0);
+        self.longest_trace = self.longest_trace.max(longest);
+        self.properties.note(traces.len());
+        self.holds += usize::from(broken.is_empty());
+        self.broken += usize::from(!broken.is_empty());
+        self.mixed_verdicts += usize::from(held > 0 && !broken.is_empty());
+        self.first_holds_alone += usize::from(traces[0] == "holds\n" && !broken.is_empty());
+        broken.sort();
+        broken.dedup();
+        self.unlike_traces += usize::from(broken.len() >= 2);
     }
 }
 
@@ -364,6 +444,12 @@ impl std::fmt::Debug for Seen {
             "{accepted} accepted ({holds} hold, {broken} broken, {must} with MUST rules, {may} with MAY, "
         )?;
         write!(out, "{irrelevant} with irrelevant, ")?;
+        let Seen { properties, mixed_verdicts, first_holds_alone, unlike_traces, .. } = self;
+        write!(
+            out,
+            "{properties:?}, {mixed_verdicts} with both verdicts, {first_holds_alone} broken though "
+        )?;
+        write!(out, "the first holds, {unlike_traces} with two traces, ")?;
         let Seen { no_core, empty_core, many_cores, longest_trace, longest_report, .. } = self;
         write!(
             out,

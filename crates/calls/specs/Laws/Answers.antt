@@ -17,6 +17,7 @@ use Rattle.models.specs.Reading.{readModel}
 use Rattle.models.specs.Written.{described, modelIn}
 use Rattle.models.specs.Laws.Ranges.{ranges}
 use Rattle.models.specs.Laws.Written.{described-count}
+use Rattle.semantics.specs.TablesOf.{Few}
 use Rattle.systems.specs.System.{System}
 use Rattle.systems.specs.Verdict.{holds, traceOf}
 use Rattle.sorting.specs.declared.which.WhichList.{WhichList}
@@ -58,13 +59,12 @@ unfolding placesIn
 rules-most text = rw (rules-told text) (ranges text .rules)
 
 module _ {text : List ℕ} {m : Model} (r : IsRead text m) where
-  pub vars-le : m .vars ≤ 7
+  pub few : Few m
   unfolding placesIn
-  vars-le = rw (r .model) (ranges text .vars)
+  few = rw (r .model) (record { vars = ranges text .vars; rules = ranges text .rules; properties = ranges text .properties })
 
   pub rules-le : m .rules ≤ 16
-  unfolding placesIn
-  rules-le = rw (r .model) (ranges text .rules)
+  rules-le = few .rules
 
   pub rules-read : m .rules ≡ rulesIn text
   rules-read = ap (λ x. x .rules) (r .model) ∙ sym (rules-told text)

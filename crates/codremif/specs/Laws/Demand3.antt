@@ -27,7 +27,7 @@ use Rattle.sorting.specs.declared.kinds.Kind.the-variants.{Must}
 use Rattle.calls.specs.declared.answers.SetAnswer.{SetAnswer}
 use Rattle.calls.specs.Answers.{rulesIn, systemIn, judgeIn, listIn, kindIn, textOutcome, judgeAnswer, listAnswer, listBytes, after}
 use Rattle.codremif.specs.Packing.{accepted, refused, judgeParts, listParts, setParts, packed}
-use Rattle.codremif.specs.Demand3.{inRattle, forHosts, Asked, GivesList, TextDemand3, AsCalled, hostAsked}
+use Rattle.codremif.specs.Demand3.{inRattle, forHosts, Asked, GivesList, Judges, TextDemand3, AsCalled, hostAsked}
 use Rattle.calls.specs.Laws.Answers.{list-numbers, list-enough, kind-given, given-refused}
 use Rattle.codremif.specs.Laws.Demand2.{judging-meets-demand2}
 use Rattle.codremif.specs.Laws.Host.{judge-reads}
@@ -66,6 +66,15 @@ module _ (text : List ℕ) (model : textOutcome text ≡ Accepted) where
   pub by-call : (S : ℕ) → S < 2 ^ rulesIn text → (lent : List ℕ) → (judgeIn text S ≡ true) ↔ (judgeAnswer text S lent ≡ Holds)
   by-call S l lent = Iff·trans (by-runs S l) (Iff·symm (judging-meets-demand2 text model S l lent .held))
 
+  -- So it is told by the call in Rattle, and by the exported one.
+  pub judges-in : Judges inRattle text (judgeIn text)
+  unfolding inRattle
+  judges-in = record { byRuns = by-runs; byCall = by-call }
+
+  pub judges-packed : Judges forHosts text (judgeIn text)
+  unfolding forHosts
+  judges-packed = record { byRuns = by-runs; byCall = λ S l lent. Iff·trans (by-call S l lent) (Iff·symm (holds-packed text S lent)) }
+
   the-lists : Demand3 (rulesIn text) (judgeIn text) (listIn Cores text) (listIn Cuts text) (kindIn Must text)
   unfolding listIn listed kindIn ofKind
   the-lists = demand3 (rulesIn text) (judgeIn text) (monotone-in text)
@@ -97,7 +106,7 @@ module _ (text : List ℕ) (model : textOutcome text ≡ Accepted) where
   unfolding inRattle
   calls-meet-demand3 {a} c = record {
     judgement = judgeIn text;
-    judged = record { byRuns = by-runs; byCall = by-call };
+    judged = judges-in;
     cores = listIn Cores text;
     cuts = listIn Cuts text;
     must = kindIn Must text;
@@ -112,7 +121,7 @@ module _ (text : List ℕ) (model : textOutcome text ≡ Accepted) where
   unfolding forHosts hostAsked packed setParts accepted
   hosts-meet-demand3 coresLent cutsLent = record {
     judgement = judgeIn text;
-    judged = record { byRuns = by-runs; byCall = λ S l lent. Iff·trans (by-call S l lent) (Iff·symm (holds-packed text S lent)) };
+    judged = judges-packed;
     cores = listIn Cores text;
     cuts = listIn Cuts text;
     must = kindIn Must text;

@@ -2,7 +2,7 @@
 -- MUST can be replaced.
 -- From the lists of the rules that are kept, numbered anew (`sets`), what a changed model means (`semantics`), and what judging answers.
 use Prim.Native.Nat.{ℕ, _^_, _<_}
-use mathlib.Core.Path.{_≡_, refl, sym, ap, ap₂, _∙_, subst}
+use mathlib.Core.Path.{_≡_, sym, ap, ap₂, _∙_, subst}
 use mathlib.Core.Logic.{_↔_, Iff·trans}
 use mathlib.Core.Bool.{Bool, true, false, true≢false}
 use mathlib.Core.List.{List, map, map-map}
@@ -25,7 +25,7 @@ use Rattle.exprs.specs.Expr.{Expr}
 use Rattle.lines.specs.Written.{Rule, LegalExpr}
 use Rattle.models.specs.declared.model.Outcome.the-variants.{Accepted}
 use Rattle.models.specs.Written.{Described, Legal, namesOf, writtenModel, modelIn}
-use Rattle.models.specs.Accepted.{accepts-what-is-written, told, told-back}
+use Rattle.models.specs.Accepted.{told-back}
 use Rattle.models.specs.Changed.{keeping, replacing}
 use Rattle.models.specs.Laws.Changed.{length-keeping, keeping-legal, length-replacing, replacing-legal}
 use Rattle.semantics.specs.Meaning.{judge}
@@ -39,26 +39,8 @@ use Rattle.calls.specs.Answers.{rulesIn, judgeIn, listIn, kindIn, textOutcome, 
 use Rattle.codremif.specs.Packing.{accepted, setParts, packed}
 use Rattle.codremif.specs.Relied.{InOneOf, SortedRules, namesIn, relevantIn, relevantModel, SameByName, Reducible, Replaceable, Relied}
 use Rattle.calls.specs.Laws.Answers.{kind-given}
+use Rattle.codremif.specs.Laws.Written.{written-accepted, written-rules, written-judge, told-legal}
 use Rattle.codremif.specs.Laws.Demand3.{monotone-in, by-call}
-
--- ---- the written form of a legal model
-
-module _ (M : Described) (l : Legal M) where
-  written-accepted : textOutcome (writtenModel M) ≡ Accepted
-  unfolding textOutcome
-  written-accepted = accepts-what-is-written (writtenModel M) .1 (M, l, refl)
-
-  written-rules : rulesIn (writtenModel M) ≡ length (M .rules)
-  unfolding rulesIn
-  written-rules = ap (λ D. length (D .rules)) (told-back M l)
-
-  written-judge : (S : ℕ) → judgeIn (writtenModel M) S ≡ judge M S
-  unfolding judgeIn
-  written-judge S = ap (λ D. judge D S) (told-back M l)
-
-told-legal : (text : List ℕ) → textOutcome text ≡ Accepted → Legal (modelIn text)
-unfolding textOutcome
-told-legal text model = told text model .legal
 
 -- ---- the irrelevant rules
 

@@ -1,6 +1,6 @@
 -- The quick answer is that of judging the set, where the lists are those of an accepted text; and for any two lists what is said is there.
 -- From the laws of looking a set up (`lookup`), what the calls answer and write, and the monotonicity of the verdict.
-use Prim.Native.Nat.{ℕ, suc, _-_, _*_, _^_, _≤_, _<_}
+use Prim.Native.Nat.{ℕ, suc, _*_, _^_, _≤_, _<_}
 use mathlib.Core.Path.{_≡_, refl, sym, ap, _∙_}
 use mathlib.Core.Logic.{inl, inr}
 use mathlib.Core.Bool.{Bool, true, false}
@@ -132,11 +132,11 @@ module _ (text : List ℕ) (model : textOutcome text ≡ Accepted) where
           r .front ∙ front-is which (r .lent) (r .sets) (same _ _ (sym (r .counted) ∙ g .count h)) (g .written h)
       go (yes h) = absurd (other (r .sets) (sym (gives which (r .lent) .refused h) ∙ r .counted))
 
-  answer-wrote : (which : WhichList) (list : List ℕ) → WroteList textByAnswers which text list → list ≡ bytesOf (listIn which text)
+  pub answer-wrote : (which : WhichList) (list : List ℕ) → WroteList textByAnswers which text list → list ≡ bytesOf (listIn which text)
   unfolding textByAnswers inRattle
   answer-wrote = wrote textByAnswers (list-given text model) (λ n m e. cc) (λ n e. let z : _≡_ {A = ℕ} 0 1 = cc in omega arith)
 
-  host-wrote : (which : WhichList) (list : List ℕ) → WroteList textByHosts which text list → list ≡ bytesOf (listIn which text)
+  pub host-wrote : (which : WhichList) (list : List ℕ) → WroteList textByHosts which text list → list ≡ bytesOf (listIn which text)
   unfolding textByHosts forHosts
   host-wrote = wrote textByHosts (list-packed text model) (λ n m e. omega arith) (λ n e. omega arith)
 

@@ -1,6 +1,6 @@
 -- Laws of classes of bytes: what a prefix ends at, and which lists are in a class throughout.
 -- From the definitions of `Bytes` and `all` of `Lines`, by induction on the lists.
-use Prim.Native.Nat.{ℕ, suc, _+_, _<_}
+use Prim.Native.Nat.{ℕ, suc, _+_, _≤_, _<_}
 use mathlib.Core.Path.{_≡_, refl, sym, ap, ap₂, _∙_}
 use mathlib.Core.Bool.{Bool, true, false, cond, not, _&&_, and-assoc, and-eq-true-iff, false≢true}
 use mathlib.Core.List.{List, [], _∷_, _++_}
@@ -50,6 +50,11 @@ all-in-line c f [] e = all-nil InLine
 all-in-line c f (b ∷ s) e = let h = all-parts c b s e in all-more InLine b s (in-line c b f (h .0)) (all-in-line c f s (h .1))
 
 -- ---- the prefix of a class
+
+pub prefix-le : (c : Class) (s : List ℕ) → prefix c s ≤ length s
+unfolding prefix
+prefix-le c [] = omega arith
+prefix-le c (b ∷ s) = by-test (λ k. k ≤ suc (length s)) (belongs c b) (λ _. omega (arith, prefix-le c s)) (λ _. omega arith)
 
 pub prefix-all : (c : Class) (s t : List ℕ) → all c s ≡ true → prefix c (s ++ t) ≡ length s + prefix c t
 unfolding prefix

@@ -1,20 +1,25 @@
--- A model that is changed in its rules stays legal, and which rules it then has.
+-- A model that is changed in its rules or properties stays legal, and which rules and properties it then has.
 -- From the laws of lists, and of what a set keeps of a list.
-use Prim.Native.Nat.{ℕ, _^_, _<_}
+use Prim.Native.Nat.{ℕ, zero, suc, _^_, _<_}
 use mathlib.Core.Path.{_≡_, sym, ap, _∙_}
 use mathlib.Core.Logic.{_≢_}
-use mathlib.Core.Bool.{true}
+use mathlib.Core.Bool.{true, false}
+use mathlib.Core.List.{List, [], _∷_}
 use native.Mathlib.Omega.{arith}
 use native.Mathlib.Decide.{ℕ-discrete}
 use lib.Count.{ones, ones-le}
 use lib.ListN.{length, length-set}
 use lib.Seq.{getD-set-same, getD-set-other}
+use Rattle.sets.specs.Tabulated.{tabulate}
 use Rattle.sets.specs.Renumbered.{oldPlace}
 use Rattle.sets.specs.Laws.Kept.{length-kept, kept-at, old-up, old-below}
 use Rattle.exprs.specs.Expr.{Expr}
 use Rattle.lines.specs.Written.{LegalExpr, LegalRule}
-use Rattle.models.specs.Written.{Described, Legal, ruleAt}
-use Rattle.models.specs.Changed.{keeping, replacing}
+use Rattle.models.specs.declared.model.Model.{Model}
+use Rattle.models.specs.Written.{Described, Legal, propertyAt, ruleAt, exprAt, propertyIn, ruleIn, described}
+use Rattle.models.specs.Changed.{keeping, replacing, byProperty}
+use Rattle.models.specs.Places.{placesByProperty}
+use Rattle.models.specs.Laws.Written.{described-property}
 
 -- ---- some rules are left out
 
@@ -38,7 +43,8 @@ module _ (U : ℕ) (M : Described) (h : U < 2 ^ length (M .rules)) where
     vars = l .vars;
     count = record { atLeast = omega (arith, length-keeping); atMost = omega (arith, length-keeping, ones-le (length (M .rules)) U h, l .count .atMost) };
     init = l .init;
-    prop = l .prop;
+    properties = l .properties;
+    props = l .props;
     rules = λ i k. rw (old-rule i) (l .rules (oldPlace (length (M .rules)) U i) (old-place i k));
     names = λ i j k m. rw (old-rule i, old-rule j) (l .names _ _ (old-up (length (M .rules)) U i j k) (old-place j m));
   }
@@ -75,7 +81,8 @@ module _ (i : ℕ) (e : Expr) (M : Described) where
       vars = l .vars;
       count = rw length-replacing (l .count);
       init = l .init;
-      prop = l .prop;
+      properties = l .properties;
+      props = l .props;
       rules = λ j k. rule j (rw length-replacing at k) (ℕ-discrete j i);
       names = λ j k m n q. l .names j k m (rw length-replacing at n) (sym (same-name j) ∙ q ∙ same-name k);
     }
@@ -85,3 +92,29 @@ module _ (i : ℕ) (e : Expr) (M : Described) where
             let old = l .rules i h in
             rw (q, replaced) (record { nameLength = old .nameLength; nameBytes = old .nameBytes; step = le })
         rule j k (no n) = rw (other-rule j n) (l .rules j k)
+
+-- ---- one property alone
+
+module _ (j : ℕ) where
+  -- The model with one property alone is legal.
+  pub by-property-legal : (M : Described) → j < length (M .props) → Legal M → Legal (byProperty j M)
+  unfolding byProperty
+  by-property-legal M h l = record {
+    vars = l .vars;
+    properties = record { atLeast = omega arith; atMost = omega arith };
+    count = l .count;
+    init = l .init;
+    props = λ i k. first i k (l .props j h);
+    rules = l .rules;
+    names = l .names;
+  }
+    where
+      first : (i : ℕ) → i < 1 → LegalExpr (M .vars) false (propertyAt (M .props) j) → LegalExpr (M .vars) false (propertyAt (propertyAt (M .props) j ∷ []) i)
+      first zero k e = e
+      first (suc i) k e = absurd (omega arith)
+
+  -- Its parts stand where they are said to.
+  pub described-by-property : (text : List ℕ) (m : Model) → j < m .properties → described text (placesByProperty j m) ≡ byProperty j (described text m)
+  unfolding described placesByProperty byProperty propertyIn ruleIn
+  described-by-property text m h =
+      ap (λ e. record { vars = m .vars; init = exprAt text (m .init); props = e ∷ []; rules = tabulate (m .rules) (ruleIn text m) }) (sym (described-property text m j h))

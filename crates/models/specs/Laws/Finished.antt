@@ -10,15 +10,15 @@ use borrow.Author.Tests.{eq-eqb, ne-eqb, lt-ltb, le-ltb}
 use lib.ListN.{length}
 use Rattle.models.specs.declared.model.Outcome.the-variants.{Accepted}
 use Rattle.models.specs.declared.model.Reading.{Reading}
-use Rattle.models.specs.declared.model.Rules.{Rules}
+use Rattle.models.specs.declared.progress.Progress.{Progress}
 use Rattle.models.specs.Reading.{refusedReading, finished}
 
-module _ (text : List ℕ) (vars rules init prop : ℕ) (r : Rules) where
+module _ (text : List ℕ) (vars rules init properties : ℕ) (r : Progress) where
   -- the reading of a text that is accepted
   abbrev pub acceptedReading : Reading
   acceptedReading = record {
     outcome = Accepted;
-    model = record { vars = vars; rules = rules; init = init; prop = prop; names = r .names; steps = r .steps };
+    model = record { vars = vars; rules = rules; init = init; properties = properties; props = r .props; names = r .names; steps = r .steps };
   }
 
   -- The reading is refused by a rule line's number, by 9, or accepted, the first of these that fits.
@@ -27,7 +27,7 @@ module _ (text : List ℕ) (vars rules init prop : ℕ) (r : Rules) where
     pub byNine : r .number ≡ 0 → r .place .at < length text → reading ≡ refusedReading 9 (r .place .line)
     pub byNone : r .number ≡ 0 → length text ≤ r .place .at → reading ≡ acceptedReading
 
-  pub last-numbers : LastNumbers (finished text vars rules init prop r)
+  pub last-numbers : LastNumbers (finished text vars rules init properties r)
   unfolding finished
   last-numbers = record {
     byRule = λ h. rw (ne-eqb (r .number) 0 h);
@@ -38,10 +38,10 @@ module _ (text : List ℕ) (vars rules init prop : ℕ) (r : Rules) where
   -- what is true in each of these cases is true of the reading
   pub by-last : (P : Reading → Type 0) → (r .number ≢ 0 → P (refusedReading (r .number) (r .place .line)))
       → (r .number ≡ 0 → r .place .at < length text → P (refusedReading 9 (r .place .line)))
-      → (r .number ≡ 0 → length text ≤ r .place .at → P acceptedReading) → P (finished text vars rules init prop r)
+      → (r .number ≡ 0 → length text ≤ r .place .at → P acceptedReading) → P (finished text vars rules init properties r)
   by-last P rule nine none = go (ℕ-discrete (r .number) 0) (decLt (r .place .at) (length text))
     where
-      go : Dec (r .number ≡ 0) → Dec (r .place .at < length text) → P (finished text vars rules init prop r)
+      go : Dec (r .number ≡ 0) → Dec (r .place .at < length text) → P (finished text vars rules init properties r)
       go (no e) _ = subst P (sym (last-numbers .byRule e)) (rule e)
       go (yes e) (yes f) = subst P (sym (last-numbers .byNine e f)) (nine e f)
       go (yes e) (no f) = subst P (sym (last-numbers .byNone e (omega arith))) (none e (omega arith))

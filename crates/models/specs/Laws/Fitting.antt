@@ -3,14 +3,11 @@
 use Prim.Native.Nat.{ℕ, zero, suc, _+_, _-_, _≤_, _<_}
 use mathlib.Core.Path.{_≡_, refl, sym, ap, ap₂, _∙_, subst, subst₂}
 use mathlib.Core.Logic.{_≢_}
-use mathlib.Core.Bool.{Bool, true, false, cond, not, _&&_, and-eq-true-iff, false≢true}
+use mathlib.Core.Bool.{Bool, true, false, _&&_, and-eq-true-iff, false≢true}
 use mathlib.Core.List.{List, [], _∷_, _++_, append-assoc}
 use native.Mathlib.Omega.{arith}
-use native.Mathlib.Nat.{add-zero, add-suc}
-use native.Mathlib.Numerals.{add-one}
-use lib.Dec.{eqb}
 use lib.ListN.{length, take, drop}
-use lib.Seq.{take-append-seam, drop-append-seam, drop-append-add}
+use lib.Seq.{take-append-seam, drop-append-seam}
 use Rattle.sets.specs.Laws.Choice.{by-test}
 use Rattle.lines.specs.declared.classes.Class.the-variants.{InLine, InName}
 use Rattle.lines.specs.declared.line.Line.{Line}
@@ -26,37 +23,10 @@ use Rattle.lines.specs.Laws.Bytes.{all-append, prefix-seam, all-prefix}
 use Rattle.lines.specs.Laws.Decimal.{decimal-apart}
 use Rattle.lines.specs.Laws.Numbers.{by-rule}
 use Rattle.lines.specs.Laws.Lines.{line-append, line-there, line-back, count-there, count-back, named-there, named-back, ruleKey-in-line}
-use Rattle.models.specs.Refusals.{afterLine, afterLines, LineAt, HasValue, CountLine, vars-line, rules-line, StateLine, init-line, prop-line, GivesCount, IsN, IsR, IsRuleLine, count-due, state-due, rule-due, ProperName, HasName, Expression, of-state, of-rule, FitsAt, line-missing, count-wrong, name-improper, name-taken, length-wrong, byte-other, letter-beyond, letter-capital, not-one, bytes-follow}
+use Rattle.models.specs.Refusals.{afterLines, LineAt, HasValue, CountLine, vars-line, rules-line, firstRuleLine, StateLine, init-line, prop-line, GivesCount, IsN, IsR, IsRuleLine, count-due, state-due, rule-due, ProperName, HasName, Expression, of-state, of-rule, FitsAt, line-missing, count-wrong, name-improper, name-taken, length-wrong, byte-other, letter-beyond, letter-capital, not-one, bytes-follow}
 use Rattle.models.specs.Laws.Grounds.{unbroken-in-line, in-line-unbroken, Unfit, unfit-length, unfit-byte, unfit-letter, unfit-capital, unfit-form, unfit-late, Tried, tried-none, tried-some, expression-tried}
 
 -- ---- the lines of a text
-
-pub lines-more : (n : ℕ) (s : List ℕ) → afterLines (suc n) s ≡ afterLine (afterLines n s)
-unfolding afterLines
-lines-more zero s = refl
-lines-more (suc n) s = lines-more n (afterLine s)
-
-pub lines-add : (m n : ℕ) (s : List ℕ) → afterLines (m + n) s ≡ afterLines n (afterLines m s)
-unfolding afterLines
-lines-add m zero s = rw add-zero
-lines-add m (suc n) s = rw add-suc (lines-more (m + n) s ∙ ap afterLine (lines-add m n s) ∙ sym (lines-more n (afterLines m s)))
-
-pub line-dropped : (s : List ℕ) → afterLine s ≡ drop (suc (lineLength s)) s
-unfolding afterLine lineLength belongs
-line-dropped [] = refl
-line-dropped (b ∷ s) = go (eqb b 10) (line-dropped s)
-  where
-    go : (t : Bool) → afterLine s ≡ drop (suc (lineLength s)) s → cond t s (afterLine s) ≡ drop (cond (not t) (suc (prefix InLine s)) 0) s
-    go true e = refl
-    go false e = e
-
--- what follows a line with its byte 10
-pub line-seam : (l rest : List ℕ) → all InLine l ≡ true → afterLine (l ++ 10 ∷ rest) ≡ rest
-unfolding lineLength belongs
-line-seam l rest a =
-    line-dropped (l ++ 10 ∷ rest)
-    ∙ ap (λ n. drop n (l ++ 10 ∷ rest)) (ap suc (prefix-seam InLine l 10 rest a refl) ∙ sym (add-one (length l)))
-    ∙ drop-append-add l (10 ∷ rest) 1
 
 -- a text has one line of each number
 line-is : {text l : List ℕ} {k : ℕ} → LineAt text k l → take (prefix InLine (afterLines (k - 1) text)) (afterLines (k - 1) text) ≡ l
@@ -96,9 +66,9 @@ data OnRule (text : List ℕ) (k : ℕ) : ℕ → Type 0 where
 
 data OnLine (text : List ℕ) : (number line : ℕ) → Type 0 where
   on-count : {m k most : ℕ} {key : List ℕ} → CountLine k key most → OnCount text k key most m → OnLine text m k
-  on-state : {m k : ℕ} {key : List ℕ} → StateLine k key → OnState text k key m → OnLine text m k
+  on-state : {m k : ℕ} {key : List ℕ} → StateLine text k key → OnState text k key m → OnLine text m k
   on-rule : {m k : ℕ} → IsRuleLine text k → OnRule text k m → OnLine text m k
-  on-last : {r : ℕ} → IsR text r → afterLines (r + 4) text ≢ [] → OnLine text 9 (r + 5)
+  on-last : {r : ℕ} → IsR text r → afterLines (firstRuleLine text + r - 1) text ≢ [] → OnLine text 9 (firstRuleLine text + r)
 
 on-expression : {text e : List ℕ} {m k : ℕ} {capitals : Bool} → Expression text k capitals e → Unfit text capitals e m → OnLine text m k
 on-expression (of-state c h) u = on-state c (state-5 h u)
@@ -130,9 +100,14 @@ count-range : {k most : ℕ} {key : List ℕ} → CountLine k key most → Withi
 count-range vars-line = record { atLeast = omega arith; atMost = omega arith }
 count-range rules-line = record { atLeast = omega arith; atMost = omega arith }
 
-state-range : {k : ℕ} {key : List ℕ} → StateLine k key → Within 3 4 k
-state-range init-line = record { atLeast = omega arith; atMost = omega arith }
-state-range prop-line = record { atLeast = omega arith; atMost = omega arith }
+-- there is a property line
+rules-behind : (text : List ℕ) → 5 ≤ firstRuleLine text
+unfolding firstRuleLine
+rules-behind text = omega arith
+
+state-range : {text key : List ℕ} {k : ℕ} → StateLine text k key → (3 ≤ k) × (k < firstRuleLine text)
+state-range {text} init-line = (omega arith, omega (arith, rules-behind text))
+state-range (prop-line a b) = (omega arith, b)
 
 same-count : {k k′ most most′ : ℕ} {key key′ : List ℕ} → CountLine k key most → CountLine k′ key′ most′ → k ≡ k′ → (key ≡ key′) × (most ≡ most′)
 same-count vars-line vars-line e = (refl, refl)
@@ -140,27 +115,27 @@ same-count vars-line rules-line e = absurd (omega arith)
 same-count rules-line vars-line e = absurd (omega arith)
 same-count rules-line rules-line e = (refl, refl)
 
-same-state : {k k′ : ℕ} {key key′ : List ℕ} → StateLine k key → StateLine k′ key′ → k ≡ k′ → key ≡ key′
+same-state : {text key key′ : List ℕ} {k k′ : ℕ} → StateLine text k key → StateLine text k′ key′ → k ≡ k′ → key ≡ key′
 same-state init-line init-line e = refl
-same-state init-line prop-line e = absurd (omega arith)
-same-state prop-line init-line e = absurd (omega arith)
-same-state prop-line prop-line e = refl
+same-state init-line (prop-line a b) e = absurd (omega arith)
+same-state (prop-line a b) init-line e = absurd (omega arith)
+same-state (prop-line a b) (prop-line c d) e = refl
 
 count-only : {text key : List ℕ} {m k most : ℕ} → CountLine k key most → OnLine text m k → OnCount text k key most m
 count-only {text} {m = m} {k} c (on-count d g) = let e = same-count d c refl in subst₂ (λ x y. OnCount text k x y m) (e .0) (e .1) g
-count-only c (on-state d g) = absurd (omega (arith, count-range c .atMost, state-range d .atLeast))
-count-only c (on-rule r g) = absurd (omega (arith, count-range c .atMost, r .least))
-count-only c (on-last r f) = absurd (omega (arith, count-range c .atMost))
+count-only c (on-state d g) = absurd (omega (arith, count-range c .atMost, state-range d .0))
+count-only {text} c (on-rule r g) = absurd (omega (arith, count-range c .atMost, r .least, rules-behind text))
+count-only {text} c (on-last r f) = absurd (omega (arith, count-range c .atMost, rules-behind text))
 
-state-only : {text key : List ℕ} {m k : ℕ} → StateLine k key → OnLine text m k → OnState text k key m
-state-only c (on-count d g) = absurd (omega (arith, state-range c .atLeast, count-range d .atMost))
+state-only : {text key : List ℕ} {m k : ℕ} → StateLine text k key → OnLine text m k → OnState text k key m
+state-only c (on-count d g) = absurd (omega (arith, state-range c .0, count-range d .atMost))
 state-only {text} {m = m} {k} c (on-state d g) = subst (λ x. OnState text k x m) (same-state d c refl) g
-state-only c (on-rule r g) = absurd (omega (arith, state-range c .atMost, r .least))
-state-only c (on-last r f) = absurd (omega (arith, state-range c .atMost))
+state-only c (on-rule r g) = absurd (omega (arith, state-range c .1, r .least))
+state-only c (on-last r f) = absurd (omega (arith, state-range c .1))
 
 rule-only : {text : List ℕ} {m k : ℕ} → IsRuleLine text k → OnLine text m k → OnRule text k m
-rule-only c (on-count d g) = absurd (omega (arith, c .least, count-range d .atMost))
-rule-only c (on-state d g) = absurd (omega (arith, c .least, state-range d .atMost))
+rule-only {text} c (on-count d g) = absurd (omega (arith, c .least, count-range d .atMost, rules-behind text))
+rule-only c (on-state d g) = absurd (omega (arith, c .least, state-range d .1))
 rule-only c (on-rule r g) = g
 rule-only c (on-last r f) = absurd (omega (arith, c .most, one-count r (c .count)))
 
@@ -170,18 +145,20 @@ fits-least f = go (by-kind f)
   where
     go : {text : List ℕ} {m k : ℕ} → OnLine text m k → 1 ≤ k
     go (on-count c g) = count-range c .atLeast
-    go (on-state c g) = omega (arith, state-range c .atLeast)
-    go (on-rule r g) = omega (arith, r .least)
-    go (on-last r f) = omega arith
+    go (on-state c g) = omega (arith, state-range c .0)
+    go {text} (on-rule r g) = omega (arith, r .least, rules-behind text)
+    go {text} (on-last r f) = omega (arith, rules-behind text)
 
-pub fits-behind : {text : List ℕ} {m k R : ℕ} → IsR text R → FitsAt text m k → R + 5 ≤ k → (m ≡ 9) × (afterLines (R + 4) text ≢ [])
+pub fits-behind : {text : List ℕ} {m k R : ℕ} → IsR text R → FitsAt text m k → firstRuleLine text + R ≤ k
+    → (m ≡ 9) × (afterLines (firstRuleLine text + R - 1) text ≢ [])
 fits-behind isR f h = go isR (by-kind f) h
   where
-    go : {text : List ℕ} {m k R : ℕ} → IsR text R → OnLine text m k → R + 5 ≤ k → (m ≡ 9) × (afterLines (R + 4) text ≢ [])
-    go isR (on-count c g) h = absurd (omega (arith, count-range c .atMost))
-    go isR (on-state c g) h = absurd (omega (arith, state-range c .atMost, isR .range .atLeast))
+    go : {text : List ℕ} {m k R : ℕ} → IsR text R → OnLine text m k → firstRuleLine text + R ≤ k
+        → (m ≡ 9) × (afterLines (firstRuleLine text + R - 1) text ≢ [])
+    go {text} isR (on-count c g) h = absurd (omega (arith, count-range c .atMost, rules-behind text))
+    go isR (on-state c g) h = absurd (omega (arith, state-range c .1))
     go isR (on-rule r g) h = absurd (omega (arith, r .most, one-count (r .count) isR))
-    go {text} isR (on-last r f) h = (refl, subst (λ n. afterLines (n + 4) text ≢ []) (one-count r isR) f)
+    go {text} isR (on-last r f) h = (refl, subst (λ n. afterLines (firstRuleLine text + n - 1) text ≢ []) (one-count r isR) f)
 
 -- ---- the keys
 
@@ -190,16 +167,16 @@ unfolding all prefix belongs
 count-key vars-line = refl
 count-key rules-line = refl
 
-pub state-key : {k : ℕ} {key : List ℕ} → StateLine k key → all InLine key ≡ true
+pub state-key : {text key : List ℕ} {k : ℕ} → StateLine text k key → all InLine key ≡ true
 unfolding all prefix belongs
 state-key init-line = refl
-state-key prop-line = refl
+state-key (prop-line a b) = refl
 
 -- ---- what is proved of a line
 
 -- Line k, of the text s, is read as l: the first number that fits, or what it says and that no number fits.
 pub data LineJudged (text : List ℕ) (k : ℕ) (s : List ℕ) (Says : ℕ → Type 0) : Line → Type 0 where
-  line-refused : {number : ℕ} → FitsAt text number k → ((m : ℕ) → m < number → ¬ FitsAt text m k) → LineJudged text k s Says (Fault number)
+  line-refused : {number : ℕ} → FitsAt text number k → ((m : ℕ) → m < number → ¬ FitsAt text m k) → 1 ≤ number → LineJudged text k s Says (Fault number)
   line-passed : {v : ℕ} → Says v → ((m : ℕ) → ¬ FitsAt text m k) → LineJudged text k s Says (Read v (lineLength s + 1))
 
 -- The same of a rule line.
@@ -282,10 +259,10 @@ module _ (text : List ℕ) (k : ℕ) (s : List ℕ) (begins : afterLines (k - 1)
     unfolding countLine
     count-judged =
         by-test (LineJudged text k s (GivesCount text k key most)) (isLine key s) (λ l. go l (countIn most (valueOf key s)) refl)
-        (λ f. line-refused (line-missing (count-due c) (no-value key (count-key c) f)) (past-count 1 (λ h. absurd (omega arith)) (λ h. absurd (omega arith))))
+        (λ f. line-refused (line-missing (count-due c) (no-value key (count-key c) f)) (past-count 1 (λ h. absurd (omega arith)) (λ h. absurd (omega arith))) (omega arith))
       where
         go : isLine key s ≡ true → (n : ℕ) → countIn most (valueOf key s) ≡ n → LineJudged text k s (GivesCount text k key most) (counted n s)
-        go l zero q = line-refused (count-fails key most c l q) (past-count 2 (λ _. l) (λ h. absurd (omega arith)))
+        go l zero q = line-refused (count-fails key most c l q) (past-count 2 (λ _. l) (λ h. absurd (omega arith))) (omega arith)
         go l (suc n) q =
             let g = gives-there key most n (count-key c) l q in
             line-passed g (λ m. past-count (suc m) (λ _. l) (λ _. (suc n, g)) m (omega arith))
@@ -293,7 +270,7 @@ module _ (text : List ℕ) (k : ℕ) (s : List ℕ) (begins : afterLines (k - 1)
   module _ (n : ℕ) (isN : IsN text n) where
     -- ---- `init` and `prop`
 
-    module _ (key : List ℕ) (c : StateLine k key) where
+    module _ (key : List ℕ) (c : StateLine text k key) where
       past-state : (number : ℕ) → (1 < number → isLine key s ≡ true) → ((m : ℕ) → m < number → ¬ Unfit text false (valueOf key s) m)
           → (m : ℕ) → m < number → ¬ FitsAt text m k
       past-state number one fit m h f = go (state-only c (by-kind f)) h
@@ -307,12 +284,12 @@ module _ (text : List ℕ) (k : ℕ) (s : List ℕ) (begins : afterLines (k - 1)
       state-judged =
           by-test (LineJudged text k s (λ _. Unit)) (isLine key s)
           (λ l. go l (expression-tried text n isN (λ m q. one-count q isN) false (valueOf key s)))
-          (λ f. line-refused (line-missing (state-due c) (no-value key (state-key c) f)) (past-state 1 (λ h. absurd (omega arith)) (λ m h u. unfit-late (omega arith) u h)))
+          (λ f. line-refused (line-missing (state-due c) (no-value key (state-key c) f)) (past-state 1 (λ h. absurd (omega arith)) (λ m h u. unfit-late (omega arith) u h)) (omega arith))
         where
           go : isLine key s ≡ true → {number : ℕ} → Tried (Unfit text false (valueOf key s)) number
               → LineJudged text k s (λ _. Unit) (unlessFault Fault number (says (length key) s))
           go l (tried-none f) = line-passed tt (λ m. past-state (suc m) (λ _. l) (λ j _. f j) m (omega arith))
-          go l (tried-some {number} u f) = line-refused (unfit-fits (of-state c (has-value key (state-key c) l)) u) (past-state (suc number) (λ _. l) f)
+          go l (tried-some {number} u f) = line-refused (unfit-fits (of-state c (has-value key (state-key c) l)) u) (past-state (suc number) (λ _. l) f) (omega arith)
 
     -- ---- a rule
 

@@ -6,16 +6,17 @@ use mathlib.Core.Logic.{⊎-elim}
 use mathlib.Core.Bool.{Bool, true, false, cond, not, _&&_, _||_, and-eq-true-iff, false≢true}
 use mathlib.Core.List.{List, [], _∷_, _++_, List·Memᴰ, List·Memᴰ·append-cases, List·Memᴰ·eq-of-singleton, List·Memᴰ·not-nil}
 use native.Mathlib.Omega.{arith}
-use borrow.Author.Tests.{eqb-true, eqb-false, leb-true, leb-false, not-false}
-use lib.Dec.{eqb, leb}
+use borrow.Author.Tests.{eqb-true, eqb-false, leb-true, leb-false, ltb-true, not-false}
+use lib.Dec.{eqb, leb, ltb}
 use lib.ListN.{length}
+use Rattle.sets.specs.Joint.{Each}
 use Rattle.sets.specs.Laws.Choice.{by-test}
 use Rattle.lines.specs.declared.classes.Class.the-variants.{InExpression, Allowed}
 use Rattle.slices.specs.Same.{same}
 use Rattle.lines.specs.Lines.{varsKey, rulesKey, initKey, propKey, ruleKey, isLine, valueOf, countIn, all, isOne, isNamed}
 use Rattle.slices.specs.Laws.Same.{same-is}
 use Rattle.lines.specs.Laws.Lines.{ruleKey-in-line}
-use Rattle.models.specs.Refusals.{afterLines, CountLine, vars-line, rules-line, StateLine, init-line, prop-line, GivesCount, IsN, IsR, IsRuleLine, count-due, state-due, rule-due, HasName, Expression, of-state, of-rule, FitsAt, line-missing, name-taken, bytes-follow}
+use Rattle.models.specs.Refusals.{afterLines, CountLine, vars-line, rules-line, firstRuleLine, StateLine, init-line, prop-line, GivesCount, IsN, IsR, IsRuleLine, count-due, state-due, rule-due, HasName, Expression, of-state, of-rule, FitsAt, line-missing, name-taken, bytes-follow}
 use Rattle.models.specs.Laws.Grounds.{length-fails, byte-fails, letter-fails, form-fails}
 use Rattle.models.specs.Laws.Fitting.{unfit-fits, count-key, state-key, nameFound, expressionFound, has-value, no-value, gives-there, count-fails, name-found, name-fails}
 
@@ -25,10 +26,6 @@ use Rattle.models.specs.Laws.Fitting.{unfit-fits, count-key, state-key, 
 unfoldable pub unless : Bool → ℕ → List ℕ
 unless true number = []
 unless false number = number ∷ []
-
--- every number of the list has P
-abbrev Each : (ℕ → Type 0) → List ℕ → Type 0
-Each P l = (m : ℕ) → List·Memᴰ m l → P m
 
 module _ (P : ℕ → Type 0) where
   each-none : Each P []
@@ -61,20 +58,20 @@ unfoldable pub stateNumbers : List ℕ → ℕ → List ℕ → List ℕ
 unfolding expressionNumbers isLine valueOf
 stateNumbers key n s = cond (isLine key s) (expressionNumbers n false (valueOf key s)) (1 ∷ [])
 
--- one of the first i rule lines has this name
-unfoldable pub nameAmong : List ℕ → ℕ → List ℕ → Bool
+-- one of the first i rule lines has this name, where the first of them has the number `first`
+unfoldable pub nameAmong : List ℕ → ℕ → ℕ → List ℕ → Bool
 unfolding afterLines isLine valueOf isNamed same
-nameAmong text zero name = false
-nameAmong text (suc j) name =
-    let s = afterLines (5 + j - 1) text in
-    nameAmong text j name || (isLine ruleKey s && (isNamed (valueOf ruleKey s) && same (nameFound s) name))
+nameAmong text first zero name = false
+nameAmong text first (suc j) name =
+    let s = afterLines (first + j - 1) text in
+    nameAmong text first j name || (isLine ruleKey s && (isNamed (valueOf ruleKey s) && same (nameFound s) name))
 
-unfoldable pub ruleNumbers : List ℕ → ℕ → ℕ → List ℕ → List ℕ
+unfoldable pub ruleNumbers : List ℕ → ℕ → ℕ → ℕ → List ℕ → List ℕ
 unfolding nameAmong expressionNumbers unless isLine valueOf isNamed
-ruleNumbers text n i s =
+ruleNumbers text first n i s =
     cond (isLine ruleKey s)
     (cond (isNamed (valueOf ruleKey s))
-    (unless (not (nameAmong text i (nameFound s))) 4 ++ expressionNumbers n true (expressionFound s))
+    (unless (not (nameAmong text first i (nameFound s))) 4 ++ expressionNumbers n true (expressionFound s))
     (3 ∷ []))
     (1 ∷ [])
 
@@ -84,12 +81,13 @@ unfolding afterLines isLine valueOf countIn
 countAt text k key most = let s = afterLines (k - 1) text in cond (isLine key s) (countIn most (valueOf key s)) 0
 
 unfoldable pub laterNumbers : List ℕ → ℕ → ℕ → ℕ → List ℕ → List ℕ
-unfolding stateNumbers ruleNumbers unless
+unfolding firstRuleLine stateNumbers ruleNumbers unless
 laterNumbers text n r k s =
+    let first = firstRuleLine text in
     cond (eqb k 3) (stateNumbers initKey n s)
-    (cond (eqb k 4) (stateNumbers propKey n s)
-    (cond (leb 5 k && leb k (r + 4)) (ruleNumbers text n (k - 5) s)
-    (cond (eqb k (r + 5)) (unless (eqb (length s) 0) 9)
+    (cond (leb 4 k && ltb k first) (stateNumbers propKey n s)
+    (cond (leb first k && ltb k (first + r)) (ruleNumbers text first n (k - first) s)
+    (cond (eqb k (first + r)) (unless (eqb (length s) 0) 9)
     [])))
 
 unfoldable pub numbersOn : List ℕ → ℕ → List ℕ
@@ -118,26 +116,32 @@ count-given text k key most c h = go (isLine key s) refl (countIn most (valueOf 
     go false l zero q b = absurd (omega arith)
     go false l (suc n) q b = absurd (omega arith)
 
-name-among : (text : List ℕ) (r : ℕ) → IsR text r → (name : List ℕ) (i : ℕ) → i ≤ r → nameAmong text i name ≡ true
-    → (j : ℕ) × (j < i) × ((e : List ℕ) × HasName text (5 + j) name e)
-unfolding nameAmong
-name-among text r isR name zero b t = absurd (false≢true t)
-name-among text r isR name (suc j) b t = go (nameAmong text j name) (name-among text r isR name j (omega arith)) t
-  where
-    s : List ℕ
-    s = afterLines (5 + j - 1) text
+-- one of the first i rule lines has this name
+abbrev Among : List ℕ → List ℕ → ℕ → Type 0
+Among text name i = (j : ℕ) × (j < i) × ((e : List ℕ) × HasName text (firstRuleLine text + j) name e)
 
-    last : Bool
-    last = isLine ruleKey s && (isNamed (valueOf ruleKey s) && same (nameFound s) name)
+module _ (text : List ℕ) (r : ℕ) (isR : IsR text r) (name : List ℕ) where
+  name-among : (i : ℕ) → i ≤ r → nameAmong text (firstRuleLine text) i name ≡ true → Among text name i
+  unfolding nameAmong
+  name-among zero b t = absurd (false≢true t)
+  name-among (suc j) b t = go (nameAmong text (firstRuleLine text) j name) (name-among j (omega arith)) t
+    where
+      k : ℕ
+      k = firstRuleLine text + j
 
-    go : (b : Bool) → (b ≡ true → (i : ℕ) × (i < j) × ((e : List ℕ) × HasName text (5 + i) name e)) → (b || last) ≡ true
-        → (i : ℕ) × (i < suc j) × ((e : List ℕ) × HasName text (5 + i) name e)
-    go true f t = let w = f refl in (w .0, omega (arith, w .1), w .2)
-    go false f t =
-        let l = and-eq-true-iff (isLine ruleKey s) (isNamed (valueOf ruleKey s) && same (nameFound s) name) .0 t in
-        let n = and-eq-true-iff (isNamed (valueOf ruleKey s)) (same (nameFound s) name) .0 (l .1) in
-        let rule : IsRuleLine text (5 + j) = record { R = r; count = isR; least = omega arith; most = omega arith } in
-        (j, omega arith, (expressionFound s, subst (λ x. HasName text (5 + j) x (expressionFound s)) (same-is (nameFound s) name (n .1)) (name-found text (5 + j) s refl rule (l .0) (n .0))))
+      s : List ℕ
+      s = afterLines (k - 1) text
+
+      last : Bool
+      last = isLine ruleKey s && (isNamed (valueOf ruleKey s) && same (nameFound s) name)
+
+      go : (b : Bool) → (b ≡ true → Among text name j) → (b || last) ≡ true → Among text name (suc j)
+      go true f t = let w = f refl in (w .0, omega (arith, w .1), w .2)
+      go false f t =
+          let l = and-eq-true-iff (isLine ruleKey s) (isNamed (valueOf ruleKey s) && same (nameFound s) name) .0 t in
+          let n = and-eq-true-iff (isNamed (valueOf ruleKey s)) (same (nameFound s) name) .0 (l .1) in
+          let rule : IsRuleLine text k = record { R = r; count = isR; least = omega arith; most = omega arith } in
+          (j, omega arith, (expressionFound s, subst (λ x. HasName text k x (expressionFound s)) (same-is (nameFound s) name (n .1)) (name-found text k s refl rule (l .0) (n .0))))
 
 -- the number fits at line k
 abbrev At : List ℕ → ℕ → ℕ → Type 0
@@ -161,21 +165,21 @@ module _ (text : List ℕ) (k : ℕ) (s : List ℕ) (begins : afterLines (k - 1)
         (each-joined (At text k) (unless (all (Allowed n capitals) e) 7) _ (each-unless (At text k) _ 7 (λ h. unfit-fits x (letter-fails text capitals e n isN h)))
         (each-unless (At text k) (isOne e) 8 (λ h. unfit-fits x (form-fails text capitals e h)))))
 
-    each-state : (key : List ℕ) → StateLine k key → Each (At text k) (stateNumbers key n s)
+    each-state : (key : List ℕ) → StateLine text k key → Each (At text k) (stateNumbers key n s)
     unfolding stateNumbers
     each-state key c =
         by-test (Each (At text k)) (isLine key s)
         (λ l. each-expression false (valueOf key s) (of-state c (has-value text k s begins key (state-key c) l)))
         (λ f. each-one (At text k) 1 (line-missing (state-due c) (no-value text k s begins key (state-key c) f)))
 
-    each-rule : (i : ℕ) → k ≡ 5 + i → IsRuleLine text k → Each (At text k) (ruleNumbers text n i s)
+    each-rule : (i : ℕ) → k ≡ firstRuleLine text + i → IsRuleLine text k → Each (At text k) (ruleNumbers text (firstRuleLine text) n i s)
     unfolding ruleNumbers
     each-rule i at c =
         by-test (Each (At text k)) (isLine ruleKey s) (λ l.
         by-test (Each (At text k)) (isNamed (valueOf ruleKey s)) (λ h.
-        each-joined (At text k) (unless (not (nameAmong text i (nameFound s))) 4) (expressionNumbers n true (expressionFound s))
+        each-joined (At text k) (unless (not (nameAmong text (firstRuleLine text) i (nameFound s))) 4) (expressionNumbers n true (expressionFound s))
         (each-unless (At text k) _ 4 (λ t.
-        let w = name-among text (c .R) (c .count) (nameFound s) i (omega (arith, c .most)) (not-false (nameAmong text i (nameFound s)) t) in
+        let w = name-among text (c .R) (c .count) (nameFound s) i (omega (arith, c .most)) (not-false (nameAmong text (firstRuleLine text) i (nameFound s)) t) in
         name-taken (omega (arith, w .1)) (w .2 .1) (name-found text k s begins c l h)))
         (each-expression true (expressionFound s) (of-rule (name-found text k s begins c l h))))
         (λ h. each-one (At text k) 3 (name-fails text k s begins c l h)))
@@ -184,21 +188,27 @@ module _ (text : List ℕ) (k : ℕ) (s : List ℕ) (begins : afterLines (k - 1)
     each-later : (r : ℕ) → IsR text r → Each (At text k) (laterNumbers text n r k s)
     unfolding laterNumbers
     each-later r isR =
-        by-test (Each (At text k)) (eqb k 3) (λ e. each-state initKey (subst (λ x. StateLine x initKey) (sym (eqb-true k 3 e)) init-line)) λ _.
-        by-test (Each (At text k)) (eqb k 4) (λ e. each-state propKey (subst (λ x. StateLine x propKey) (sym (eqb-true k 4 e)) prop-line)) λ _.
-        by-test (Each (At text k)) (leb 5 k && leb k (r + 4))
+        by-test (Each (At text k)) (eqb k 3) (λ e. each-state initKey (subst (λ x. StateLine text x initKey) (sym (eqb-true k 3 e)) init-line)) λ _.
+        by-test (Each (At text k)) (leb 4 k && ltb k first)
         (λ e.
-        let b = and-eq-true-iff (leb 5 k) (leb k (r + 4)) .0 e in
-        let low : 5 ≤ k = leb-true 5 k (b .0) in
-        each-rule (k - 5) (omega arith) (record { R = r; count = isR; least = low; most = leb-true k (r + 4) (b .1) }))
+        let b = and-eq-true-iff (leb 4 k) (ltb k first) .0 e in
+        each-state propKey (prop-line (leb-true 4 k (b .0)) (ltb-true k first (b .1))))
         λ _.
-        by-test (Each (At text k)) (eqb k (r + 5))
+        by-test (Each (At text k)) (leb first k && ltb k (first + r))
+        (λ e.
+        let b = and-eq-true-iff (leb first k) (ltb k (first + r)) .0 e in
+        let low : first ≤ k = leb-true first k (b .0) in
+        each-rule (k - first) (omega arith) (record { R = r; count = isR; least = low; most = ltb-true k (first + r) (b .1) }))
+        λ _.
+        by-test (Each (At text k)) (eqb k (first + r))
         (λ e. each-unless (At text k) (eqb (length s) 0) 9 (λ h.
-        let at : k ≡ r + 5 = eqb-true k (r + 5) e in
-        let before : r + 4 ≡ k - 1 = omega arith in
-        subst (FitsAt text 9) (sym at)
-        (bytes-follow isR (λ q. eqb-false (length s) 0 h (ap length (sym begins ∙ ap (λ x. afterLines x text) (sym before) ∙ q))))))
+        let at : k ≡ first + r = eqb-true k (first + r) e in
+        let before : first + r - 1 ≡ k - 1 = omega arith in
+        subst (FitsAt text 9) (sym at) (bytes-follow isR (λ q. eqb-false (length s) 0 h (ap length (sym begins ∙ ap (λ x. afterLines x text) (sym before) ∙ q))))))
         λ _. each-none (At text k)
+      where
+        first : ℕ
+        first = firstRuleLine text
 
 -- each number that is computed for a line fits there
 pub numbers-fit : (text : List ℕ) (k m : ℕ) → List·Memᴰ m (numbersOn text k) → FitsAt text m k

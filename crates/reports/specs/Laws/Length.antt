@@ -12,6 +12,8 @@ use lib.ListN.{length, getD, length-append, List·getD-eq-default}
 use lib.Pow.{pow-mono}
 use Rattle.sets.specs.Bit.{has, full}
 use Rattle.sets.specs.Lists.{select}
+use Rattle.sets.specs.Tabulated.{tabulate}
+use Rattle.sets.specs.Laws.Tabulated.{length-tabulate}
 use Rattle.sets.specs.Laws.Choice.{by-test}
 use Rattle.exprs.specs.Expr.{constant}
 use Rattle.lines.specs.Bytes.{bytes}
@@ -22,6 +24,7 @@ use Rattle.models.specs.declared.model.Outcome.{Outcome}
 use Rattle.models.specs.declared.model.Outcome.the-variants.{Accepted, Refused}
 use Rattle.models.specs.Written.{Described, Legal, ruleAt, modelIn}
 use Rattle.models.specs.Accepted.{told}
+use Rattle.models.specs.Changed.{byProperty}
 use Rattle.models.specs.Laws.Ranges.{Refusal, ranges}
 use Rattle.systems.specs.System.{System}
 use Rattle.systems.specs.Verdict.{holds, traceOf}
@@ -38,7 +41,7 @@ use Rattle.pages.specs.Page.{pagesFrom}
 use Rattle.sections.specs.Laws.Sections.{set-text}
 use Rattle.pages.specs.Laws.Page.{pages-are-the-text}
 use Rattle.pages.specs.Numbers.{numberLine}
-use Rattle.sections.specs.Sections.{separated, nameIn, setText, setLine, verdictLines, countKey, setKey, listLines, kindLines}
+use Rattle.sections.specs.Sections.{separated, nameIn, setText, setLine, verdictLines, verdictBy, verdictsOf, countKey, setKey, listLines, kindLines}
 use Rattle.reports.specs.Report.{modelReport, refusalReport, reportOn, reportOf}
 
 -- ---- numbers
@@ -129,7 +132,7 @@ verdict-length N few =
     (λ e.
     omega (arith, length-append (line (bytes "verdict=") (bytes "broken")) states, length-line (bytes "verdict=") (bytes "broken"), judged N .at-most-size, lines-length (numberLine (bytes "state=")) 136 (traceOf N) (λ i h. omega (arith, number-length (bytes "state=") (getD (traceOf N) i 0), judged N .broken e .breach .walk .states i h))))
 
-refusal-length : (number at : ℕ) → Refusal number at → length (refusalReport number at) ≤ 47
+refusal-length : (number at : ℕ) → Refusal number at → length (refusalReport number at) ≤ 50
 unfolding refusalReport
 refusal-length number at r =
     omega (arith, length-append (numberLine (bytes "refused=") number) (numberLine (bytes "line=") at), number-length (bytes "refused=") number, number-length (bytes "line=") at, r .most, r .lastLine)
@@ -145,9 +148,16 @@ module _ (text : List ℕ) where
   unfolding textOutcome
   is-refusal number at e = ranges text .refusal number at e
 
-  few-states : (S : ℕ) → systemOf (modelIn text) S .size ≤ 128
-  unfolding systemOf
-  few-states S = omega (arith, pow-mono (vars-most text))
+  few-states : (j S : ℕ) → systemOf (byProperty j (modelIn text)) S .size ≤ 128
+  unfolding systemOf byProperty
+  few-states j S = omega (arith, pow-mono (vars-most text))
+
+  verdicts-length : textOutcome text ≡ Accepted → length (verdictsOf (modelIn text)) ≤ 69760
+  unfolding verdictsOf verdictBy
+  verdicts-length e =
+      let M : Described = modelIn text in
+      let places : List ℕ = tabulate (length (M .props)) (λ j. j) in
+      omega (arith, is-legal e .properties .atMost, length-tabulate (length (M .props)) (λ j. j), lines-length (verdictBy M) 17440 places (λ i h. verdict-length _ (few-states (getD places i 0) (full (length (M .rules))))))
 
   few-sets : (which : WhichList) → length (listed which (length (modelIn text .rules)) (judge (modelIn text))) ≤ 65536
   unfolding listIn rulesIn judgeIn
@@ -158,11 +168,11 @@ module _ (text : List ℕ) where
   model-length e =
       let M : Described = modelIn text in
       let R : ℕ = length (M .rules) in
-      let verdict : List ℕ = verdictLines (systemOf M (full R)) in
+      let verdicts : List ℕ = verdictsOf M in
       let kinds : List ℕ = kindLines M (judge M) in
       let cores : List ℕ = listLines M Cores (listed Cores R (judge M)) in
       let cuts : List ℕ = listLines M Cuts (listed Cuts R (judge M)) in
-      omega (arith, length-append verdict (kinds ++ (cores ++ cuts)), length-append kinds (cores ++ cuts), length-append cores cuts, verdict-length (systemOf M (full R)) (few-states (full R)), kinds-length M (is-legal e) (judge M), list-length M (is-legal e) Cores (listed Cores R (judge M)) (few-sets Cores), list-length M (is-legal e) Cuts (listed Cuts R (judge M)) (few-sets Cuts))
+      omega (arith, length-append verdicts (kinds ++ (cores ++ cuts)), length-append kinds (cores ++ cuts), length-append cores cuts, verdicts-length e, kinds-length M (is-legal e) (judge M), list-length M (is-legal e) Cores (listed Cores R (judge M)) (few-sets Cores), list-length M (is-legal e) Cuts (listed Cuts R (judge M)) (few-sets Cuts))
 
   -- No report has more than 2^25 bytes.
   pub report-length : length (reportOf text) ≤ 33554432

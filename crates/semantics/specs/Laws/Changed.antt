@@ -29,7 +29,7 @@ use Rattle.semantics.specs.Laws.Meaning.{step-iff, judge-monotone}
 -- With other rules but the same steps a set has the same verdict.
 module _ (M : Described) (rules : List Rule) where
   abbrev other : Described
-  other = record { vars = M .vars; init = M .init; prop = M .prop; rules = rules }
+  other = record { vars = M .vars; init = M .init; props = M .props; rules = rules }
 
   same-steps : (S T : ℕ) → ((s t : ℕ) → stepOf other S s t ≡ stepOf M T s t) → judge other S ≡ judge M T
   unfolding judge systemOf startOf badOf

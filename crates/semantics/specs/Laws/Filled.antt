@@ -15,7 +15,7 @@ use Rattle.systems.specs.ByTables.{HasRoom, systemBy, judgeBy}
 use Rattle.systems.specs.Traced.{traceArray}
 use Rattle.systems.specs.Laws.Traced.{same-traceArray}
 use Rattle.semantics.specs.Meaning.{systemOf, judge}
-use Rattle.semantics.specs.TablesOf.{masksOf, tablesOf, RoomFor}
+use Rattle.semantics.specs.TablesOf.{masksOf, tablesOf, Few, RoomFor}
 use Rattle.semantics.specs.Laws.Meaning.{judge-monotone}
 use Rattle.semantics.specs.Laws.TablesOf as Law
 use Rattle.models.specs.Laws.Written.{described-count}
@@ -27,16 +27,15 @@ pub repeats : (n word : ℕ) → length {A = ℕ} (replicate n word) ≡ n
 repeats n word = length-replicate {A = ℕ} n word
 
 -- So many entries are enough for the masks of models of at most so many letters.
-pub array-room : (n most : ℕ) {m : Model} → 128 * 2 ^ most ≤ n → m .vars ≤ most → m .vars ≤ 7 → m .rules ≤ 16 → RoomFor m (replicate n 0)
-array-room n most enough few vars rules =
-    record { vars = vars; rules = rules; room = omega (arith, pow-mono few, repeats n 0) }
+pub array-room : (n most : ℕ) {m : Model} → 128 * 2 ^ most ≤ n → m .vars ≤ most → Few m → RoomFor m (replicate n 0)
+array-room n most enough small few = record { few = few; room = omega (arith, pow-mono small, repeats n 0) }
 
 -- ---- the tables that are filled
 
 module _ (before text : List ℕ) (m : Model) (r : RoomFor m before) where
   pub has-room : HasRoom (masksOf before (described text m)) (tablesOf (described text m))
   unfolding tablesOf described
-  has-room = record { few = Law.states-le (m .vars) (r .vars); room = omega (arith, Law.length-masks before (described text m), r .room) }
+  has-room = record { few = Law.states-le (m .vars) (r .few .vars); room = omega (arith, Law.length-masks before (described text m), r .room) }
 
   below : {S : ℕ} → S < 2 ^ m .rules → S < 2 ^ length (described text m .rules)
   below {S} h = subst (λ n. S < 2 ^ n) (sym (described-count text m)) h
@@ -44,7 +43,7 @@ module _ (before text : List ℕ) (m : Model) (r : RoomFor m before) where
   -- Each rule set has by the tables the system that it means,
   pub same-system : (S : ℕ) → S < 2 ^ m .rules → Same (systemBy (masksOf before (described text m)) (tablesOf (described text m)) S) (systemOf (described text m) S)
   unfolding described
-  same-system S h = Law.tables-same before (described text m) (r .vars) (r .room) S (below h)
+  same-system S h = Law.tables-same before (described text m) (r .few .vars) (r .room) S (below h)
 
   -- the verdict
   pub same-judge : (S : ℕ) → S < 2 ^ m .rules → judgeBy (masksOf before (described text m)) (tablesOf (described text m)) S ≡ judge (described text m) S

@@ -3,12 +3,13 @@
 use Prim.Native.Nat.{ℕ, _+_, _*_, _/_, _%_, _≤_, _<_}
 use mathlib.Core.Path.{_≡_, refl, sym, ap, _∙_, fun-ext}
 use mathlib.Core.Bool.{Bool, true, false, not, Bool·beq, cond}
-use mathlib.Core.List.{List}
+use mathlib.Core.List.{List, [], _∷_}
 use mathlib.Core.Option.{Option, none, some}
 use native.Mathlib.Omega.{arith}
 use borrow.Author.Tests.{lt-ltb, le-ltb}
 use lib.Dec.{ltb}
-use lib.ListN.{length, getD, set, replicate, drop}
+use lib.ListN.{length, getD, take, set, replicate, drop}
+use lib.Seq.{getD-take, length-take-le}
 use Rattle.sets.specs.Bit.{has}
 use Rattle.sets.specs.Gathered.{setOf}
 use Rattle.sets.specs.Laws.Gathered.{has-setOf, setOf-same, setOf-none}
@@ -19,28 +20,38 @@ use Rattle.exprs.specs.Expr.{Expr, value}
 use Rattle.exprs.specs.Reading.{readExpr}
 use Rattle.exprs.specs.Answers.{wordsIn, wordsOf}
 use Rattle.models.specs.declared.model.Model.{Model}
-use Rattle.models.specs.Written.{orFalse, exprAt, ruleIn, described}
-use Rattle.models.specs.Laws.Written.{described-count, described-rule}
-use Rattle.semantics.specs.Meaning.{startOf, badOf, ruleMet}
+use Rattle.models.specs.Written.{orFalse, exprAt, propertyIn, ruleIn, described}
+use Rattle.models.specs.Laws.Written.{described-properties, described-property, described-count, described-rule}
+use Rattle.semantics.specs.Meaning.{every, startOf, propertyMet, badOf, ruleMet}
 use Rattle.semantics.specs.TablesOf.{maskOf}
-use Rattle.semantics.specs.Places.{meets, maskBy, wordAt, wordTable}
+use Rattle.semantics.specs.Laws.Meaning.{every-same}
+use Rattle.semantics.specs.Places.{meets, meetsAll, maskBy, wordAt, wordTable}
 
 -- ---- the model that the text tells
 
 module _ (text : List ℕ) (m : Model) where
-  -- A test whether `init` is true marks the start states, and one whether `prop` is false the bad states.
-  pub start-described : (s : ℕ) → Bool·beq (meets text (m .init) s s) true ≡ startOf (described text m) s
-  unfolding described meets startOf
+  -- A test whether `init` is met marks the start states, and one whether not all properties are met the bad states.
+  pub start-described : (s : ℕ) → Bool·beq (meetsAll text (m .init ∷ []) s) true ≡ startOf (described text m) s
+  unfolding described meetsAll every meets startOf
   start-described s = is-true (value (exprAt text (m .init)) s s)
     where
       is-true : (b : Bool) → Bool·beq b true ≡ b
       is-true true = refl
       is-true false = refl
 
-  pub bad-described : (s : ℕ) → Bool·beq (meets text (m .prop) s s) false ≡ badOf (described text m) s
-  unfolding described meets badOf
-  bad-described s = is-false (value (exprAt text (m .prop)) s s)
+  pub bad-described : m .properties ≤ length (m .props) → (s : ℕ) → Bool·beq (meetsAll text (take (m .properties) (m .props)) s) false ≡ badOf (described text m) s
+  unfolding meetsAll meets badOf propertyMet propertyIn
+  bad-described room s = is-false (meetsAll text places s) ∙ ap not (ap (λ (n : ℕ). every n (λ j. meets text (getD places j 0) s s)) count ∙ every-same (m .properties) _ _ same ∙ ap (λ (n : ℕ). every n (λ j. propertyMet (described text m) j s)) (sym (described-properties text m)))
     where
+      places : List ℕ
+      places = take (m .properties) (m .props)
+
+      count : length places ≡ m .properties
+      count = length-take-le (m .properties) (m .props) room
+
+      same : (j : ℕ) → j < m .properties → meets text (getD places j 0) s s ≡ propertyMet (described text m) j s
+      same j h = ap (λ (at : ℕ). meets text at s s) (getD-take (m .properties) (m .props) j 0 h) ∙ ap (λ e. value e s s) (sym (described-property text m j h))
+
       is-false : (b : Bool) → Bool·beq b false ≡ not b
       is-false true = refl
       is-false false = refl

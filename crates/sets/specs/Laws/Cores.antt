@@ -2,14 +2,15 @@
 -- From the test for a part, since a proper part has a smaller number.
 use Prim.Native.Nat.{ℕ, zero, suc, _-_, _<_}
 use mathlib.Core.Path.{_≡_, refl, sym, ap, _∙_}
-use mathlib.Core.Logic.{_↔_, Iff·trans}
+use mathlib.Core.Logic.{_↔_, ⊎-elim, Iff·trans}
 use mathlib.Core.Bool.{Bool, true, false, not, _&&_, and-eq-true-iff, true≢false}
 use native.Mathlib.Omega.{arith}
+use native.Mathlib.Nat.{eq-or-lt-of-le}
 use borrow.Author.Count.{below-more}
 use borrow.Author.Tests.{not-true}
 use Rattle.sets.specs.Bit.{full}
 use Rattle.sets.specs.Sets.{_⊑_, part}
-use Rattle.sets.specs.Laws.Sets.{part-refl, part-zero, part-iff, proper-lt}
+use Rattle.sets.specs.Laws.Sets.{part-refl, part-zero, part-le, part-iff, proper-lt}
 use Rattle.sets.specs.Cores.{Core, Cut, Least, breaks, isCore, isCut, isLeast, noneBelow}
 
 -- ---- the laws
@@ -43,13 +44,16 @@ least-agree P Q S e = (move P Q (λ T p. e T p .0) (λ T p. e T p .1), move Q P 
           noPart = λ T p m. l .noPart T p (from T (p .within) m);
         }
 
+-- A part of a least set that is P as well is the whole of it.
+pub least-whole : {P : ℕ → Type 0} {S T : ℕ} → Least P S → T ⊑ S → P T → T ≡ S
+least-whole {T = T} l p m = ⊎-elim (λ e. e) (λ b. absurd (l .noPart T (record { within = p; other = omega arith }) m)) (eq-or-lt-of-le (part-le p))
+
 -- Where set 0 is P, it is the one least set.
 pub least-zero : (P : ℕ → Type 0) → P 0 → Least P 0
 least-zero P p = record { itself = p; noPart = λ T q m. omega (arith, proper-lt q) }
 
 pub zero-least : (P : ℕ → Type 0) (S : ℕ) → P 0 → Least P S → S ≡ 0
-zero-least P zero p l = refl
-zero-least P (suc S) p l = absurd (l .noPart 0 (record { within = part-zero (suc S); other = omega arith }) p)
+zero-least P S p l = sym (least-whole l (part-zero S) p)
 
 pub isLeast-iff : (q : ℕ → Bool) (S : ℕ) → (isLeast q S ≡ true) ↔ Least (λ T. q T ≡ true) S
 unfolding isLeast

@@ -157,23 +157,23 @@ listOf-lists R q =
       order = ascending-at (listOf R q) (ascending-listOf R q);
     }
 
-lists-agree : (l : List ℕ) (R : ℕ) (P Q : ℕ → Type 0) → ((S : ℕ) → P S ↔ Q S)
-    → Lists l (Among R P) → Lists l (Among R Q)
-lists-agree l R P Q e k =
-    record {
-      each = λ S p. k .each S (record { rules = p .rules; itself = e S .1 (p .itself) });
-      only = λ S m. let p = k .only S m in record { rules = p .rules; itself = e S .0 (p .itself) };
-      once = k .once;
-      order = k .order;
-    }
+-- A list of the sets that are P is one of those that are Q, where these are the same sets.
+pub lists-agree : {l : List ℕ} {P Q : ℕ → Type 0} → ((S : ℕ) → P S ↔ Q S) → Lists l P → Lists l Q
+lists-agree e k = record { each = λ S q. k .each S (e S .1 q); only = λ S m. e S .0 (k .only S m); once = k .once; order = k .order }
+
+among-agree : {R : ℕ} {P Q : ℕ → Type 0} → ((S : ℕ) → P S ↔ Q S) → (S : ℕ) → Among R P S ↔ Among R Q S
+among-agree e S = (
+  λ p. record { rules = p .rules; itself = e S .0 (p .itself) },
+  λ q. record { rules = q .rules; itself = e S .1 (q .itself) },
+)
 
 -- The core list has each core exactly once and nothing else; the cut list has each cut exactly once and nothing else.
 pub coresOf-lists : (R : ℕ) (h : ℕ → Bool) → Lists (coresOf R h) (Among R (Core h))
 unfolding coresOf
 coresOf-lists R h =
-    lists-agree (listOf R (isCore h)) R (λ S. isCore h S ≡ true) (Core h) (isCore-iff h) (listOf-lists R (isCore h))
+    lists-agree (among-agree (isCore-iff h)) (listOf-lists R (isCore h))
 
 pub cutsOf-lists : (R : ℕ) (h : ℕ → Bool) → Lists (cutsOf R h) (Among R (Cut R h))
 unfolding cutsOf
 cutsOf-lists R h =
-    lists-agree (listOf R (isCut R h)) R (λ S. isCut R h S ≡ true) (Cut R h) (isCut-iff R h) (listOf-lists R (isCut R h))
+    lists-agree (among-agree (isCut-iff R h)) (listOf-lists R (isCut R h))

@@ -8,7 +8,7 @@ use native.Mathlib.Omega.{arith}
 use native.Mathlib.Decide.{decLt}
 use native.Mathlib.Nat.{mod-lt}
 use lib.Dec.{eqb}
-use lib.Bits.{bitAnd, and-le-r, and-comm}
+use lib.Bits.{bitAnd, bitOr, and-le-r, and-comm}
 use lib.Pow.{pow-pos, lt-of-le-ones}
 use borrow.Author.Tests.{eqb-true, eq-eqb}
 use Rattle.sets.specs.Laws.Choice.{alike}
@@ -40,6 +40,13 @@ part-zero S = record { every = λ i e. absurd (has-zero i e) }
 
 pub part-full : (R S : ℕ) → S < 2 ^ R → S ⊑ full R
 part-full R S h = record { every = λ i e. has-full R i .1 (has-below R S i h e) }
+
+-- A union is a part of U exactly when both sets are.
+pub or-part : (S T U : ℕ) → (bitOr S T ⊑ U) ↔ ((S ⊑ U) × (T ⊑ U))
+or-part S T U = (
+  λ p. (record { every = λ i e. p .every i (has-or S T i .1 (inl e)) }, record { every = λ i e. p .every i (has-or S T i .1 (inr e)) }),
+  λ p. record { every = λ i e. ⊎-elim (p .0 .every i) (p .1 .every i) (has-or S T i .0 e) },
+)
 
 -- The test is true exactly of a part.
 pub part-iff : (S T : ℕ) → (part S T ≡ true) ↔ (S ⊑ T)

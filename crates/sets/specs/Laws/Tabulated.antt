@@ -1,15 +1,15 @@
 -- An entry of a list that is given entry by entry, and which list it is after a repeated value, after a store at one place, at the next place
 -- from the front, or to a part that is lent; the last ones are for marks by a test. From the laws of lists.
 use Prim.Native.Nat.{ℕ, zero, suc, _+_, _-_, _<_, _≤_, zero-le}
-use mathlib.Core.Path.{_≡_, refl, sym, ap, ap₂, _∙_}
-use mathlib.Core.Logic.{_≢_}
+use mathlib.Core.Path.{_≡_, refl, sym, ap, ap₂, subst, _∙_}
+use mathlib.Core.Logic.{_↔_, _≢_, ⊎-elim}
 use mathlib.Core.Bool.{Bool, false, _&&_}
-use mathlib.Core.List.{List, [], _∷_, _++_, append-assoc, append-nil}
+use mathlib.Core.List.{List, [], _∷_, _++_, append-assoc, append-nil, List·Memᴰ, List·Memᴰ·head, List·Memᴰ·not-nil, List·Memᴰ·append-cases, List·Memᴰ·eq-of-singleton, Memᴰ·append-left, Memᴰ·append-right}
 use native.Mathlib.Omega.{arith}
 use native.Mathlib.Decide.{ℕ-discrete}
 use native.Mathlib.Nat.{add-suc, add-zero}
 use native.Mathlib.Numerals.{add-one}
-use borrow.Author.Count.{below-more}
+use borrow.Author.Count.{below-none, below-more}
 use borrow.Author.Tests.{lt-ltb, le-ltb, ltb-true}
 use lib.Dec.{ltb}
 use lib.ListN.{length, getD, take, drop, set, replicate, length-append, length-set, length-replicate, getD-replicate, List·getD-append}
@@ -43,6 +43,19 @@ module _ {A : Type 0} where
   unfolding tabulate
   same-entries zero f g h = refl
   same-entries (suc n) f g h = ap₂ (λ l a. l ++ a ∷ []) (same-entries n f g (λ i l. h i (omega arith))) (h n (omega arith))
+
+  -- Every entry of the list is P.
+  pub each-tabulate : (P : A → Type 0) (n : ℕ) (f : ℕ → A) → ((x : A) → List·Memᴰ x (tabulate n f) → P x) ↔ ((i : ℕ) → i < n → P (f i))
+  unfolding tabulate
+  each-tabulate P zero f = (λ all. below-none (λ i. P (f i)), λ all x m. absurd (List·Memᴰ·not-nil m))
+  each-tabulate P (suc n) f = (
+    λ all i l.
+        below-more (λ i. P (f i)) n (each-tabulate P n f .0 (λ x m. all x (Memᴰ·append-left (f n ∷ []) m)))
+        (all (f n) (Memᴰ·append-right (tabulate n f) (List·Memᴰ·head refl))) i (omega arith),
+    λ all x m.
+        ⊎-elim (each-tabulate P n f .1 (λ i l. all i (omega arith)) x) (λ last. subst P (sym (List·Memᴰ·eq-of-singleton last)) (all n (omega arith)))
+        (List·Memᴰ·append-cases (tabulate n f) m),
+  )
 
   -- A repeated array.
   pub all-alike : (n : ℕ) (a : A) (f : ℕ → A) → ((i : ℕ) → i < n → a ≡ f i) → replicate n a ≡ tabulate n f

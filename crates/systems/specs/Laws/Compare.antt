@@ -7,7 +7,7 @@ use mathlib.Core.Bool.{true, false}
 use mathlib.Core.List.{List}
 use mathlib.Mathlib.Data.Bool.Basic.{dichotomy, partialOrderLaws}
 use native.Mathlib.Omega.{arith}
-use Rattle.systems.specs.System.{System, last, Breach, Holds, Trace}
+use Rattle.systems.specs.System.{System, last, Run, Breach, Holds, Trace}
 use Rattle.systems.specs.Verdict.{holds, traceOf}
 use Rattle.systems.specs.Laws.Walks.{walk-last, holds-no-breach, no-breach-holds}
 use Rattle.systems.specs.Judged.{judged}
@@ -27,15 +27,20 @@ pub record Same (N M : System) : Type 0 where
   pub step : (s t : ℕ) → s < N .size → t < N .size → N .step s t ≡ M .step s t
   pub bad : (s : ℕ) → s < N .size → N .bad s ≡ M .bad s
 
+-- Where N has the states of M, and its start states and steps are among those of M, every run of N is a run of M.
+pub run-kept : {N M : System} → N .size ≡ M .size → ((s : ℕ) → s < N .size → N .start s ≡ true → M .start s ≡ true)
+    → ((s t : ℕ) → s < N .size → t < N .size → N .step s t ≡ true → M .step s t ≡ true) → {l : List ℕ} → Run N l → Run M l
+run-kept size start step w = record {
+  nonempty = w .nonempty;
+  states = λ i h. omega (arith, w .states i h, size);
+  first = start _ (w .states zero (w .nonempty)) (w .first);
+  steps = λ i h. step _ _ (w .states i (omega arith)) (w .states (suc i) h) (w .steps i h);
+}
+
 module _ {N M : System} (p : Part N M) where
   pub part-breach : {l : List ℕ} → Breach N l → Breach M l
   part-breach {l} b = record {
-    walk = record {
-      nonempty = b .walk .nonempty;
-      states = λ i h. omega (arith, b .walk .states i h, p .size);
-      first = p .start _ (b .walk .states zero (b .walk .nonempty)) (b .walk .first);
-      steps = λ i h. p .step _ _ (b .walk .states i (omega arith)) (b .walk .states (suc i) h) (b .walk .steps i h);
-    };
+    walk = run-kept (p .size) (p .start) (p .step) (b .walk);
     ends = p .bad (last l) (walk-last l (b .walk)) (b .ends);
   }
 
@@ -45,6 +50,10 @@ module _ {N M : System} (p : Part N M) where
 
   pub part-holds : holds M ≡ true → holds N ≡ true
   part-holds e = holds-iff N .1 (part-keeps (holds-iff M .0 e))
+
+  -- The trace of M is that of N if it is a breach of N.
+  pub part-trace : {l : List ℕ} → Breach N l → Trace M l → Trace N l
+  part-trace b t = record { breach = b; shortest = λ m d. t .shortest m (part-breach d); first = λ m d. t .first m (part-breach d) }
 
 pub same-part : {N M : System} → Same N M → Part N M
 same-part e = record {
@@ -69,17 +78,7 @@ module _ {N M : System} (e : Same N M) where
   pub same-traceOf : traceOf N ≡ traceOf M
   same-traceOf = ⊎-elim broken (λ h. judged N .held h ∙ sym (judged M .held (sym same-holds ∙ h))) (dichotomy (holds N))
     where
-      there : {l : List ℕ} → Breach N l → Breach M l
-      there = part-breach (same-part e)
-
-      back : {l : List ℕ} → Breach M l → Breach N l
-      back = part-breach (same-part (same-sym e))
-
       broken : holds N ≡ false → traceOf N ≡ traceOf M
       broken h =
           let t : Trace N (traceOf N) = judged N .broken h in
-          judged M .only (traceOf N) (record {
-            breach = there (t .breach);
-            shortest = λ m b. t .shortest m (back b);
-            first = λ m b q. t .first m (back b) q;
-          })
+          judged M .only (traceOf N) (part-trace (same-part (same-sym e)) (part-breach (same-part e) (t .breach)) t)

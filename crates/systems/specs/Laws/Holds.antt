@@ -5,7 +5,7 @@ use mathlib.Core.Path.{_≡_, refl, sym, ap, _∙_}
 use mathlib.Core.Logic.{_↔_, _⊎_, ⊎-elim}
 use mathlib.Core.Bool.{true, false, cond}
 use mathlib.Core.List.{List, [], _∷_}
-use mathlib.Mathlib.Data.Bool.Basic.{eq-true-of-not-eq-false}
+use mathlib.Mathlib.Data.Bool.Basic.{eq-true-of-not-eq-false, eq-false-of-not-eq-true}
 use native.Mathlib.Nat.{suc-inj}
 use native.Mathlib.Omega.{arith}
 use borrow.Author.Tests.{leb-true, leb-false}
@@ -46,6 +46,10 @@ holds-iff M = (
   λ e. no-breach-holds (λ l b. let (k, g, f) = breach-breaks l b in omega (arith, leb-true (M .size) (depth M) e, depth-finds M k f)),
   λ h. holdsBelow-iff M (M .size) .1 (λ l g b. holds-no-breach h l b),
 )
+
+-- With a breach, a system is broken.
+pub breach-broken : {M : System} {l : List ℕ} → Breach M l → holds M ≡ false
+breach-broken {M} {l} b = eq-false-of-not-eq-true (λ e. holds-no-breach (holds-iff M .0 e) l b)
 
 module _ (M : System) where
   pub traceOf-held : holds M ≡ true → traceOf M ≡ []

@@ -9,7 +9,7 @@ use std::hint::black_box;
 use std::path::Path;
 use std::time::{Duration, Instant};
 
-use codremif_host::answer::Said;
+use codremif_host::answer::{Refused, Said};
 use codremif_host::calls;
 use codremif_host::compare::place_in;
 use codremif_host::judgements;
@@ -39,12 +39,14 @@ fn main() {
     table("Largest models: 7 bits, 16 rules", largest_models());
     table("Growing N, 16 rules", (1..=7).map(|bits| growing(bits, 16)).collect());
     table("Growing R, 7 bits", (1..=16).map(|rules| growing(7, rules)).collect());
+    table_of_properties();
     table_of_lookups();
     println!(
         "Times are medians in milliseconds; 'ratio' is the plain search's time divided by the library's."
     );
     println!("'judged' is how many sets a list call judges; the plain search judges all 2^R, and MUST takes R + 1 at most.");
     println!("The judge call is given the full set. All answers of the two sides were alike.");
+    println!("Next to one property, 'ratio' is the time with four divided by the time with one; at most 1.2 is asked for.");
     println!(
         "Where a set is looked up, times are nanoseconds for each listed set passed over; at most 2 are stated."
     );
@@ -96,23 +98,30 @@ fn largest_models() -> Vec<Case> {
 fn longest_text() -> Case {
     let random = &mut Random::new(8);
     let mut written = model_of(random, Kind::Dense, 7, 16);
-    for place in 0..16 {
-        written.rules[place].1 = pad(random, &written.rules[place].1, 64);
-    }
+    pad_rules(random, &mut written);
     written.init = pad(random, &written.init, 64);
-    written.prop = pad(random, &written.prop, 64);
+    written.properties[0] = pad(random, &written.properties[0], 64);
     Case { name: "dense, 64-byte rules".to_string(), text: written.text() }
+}
+
+fn pad_rules(random: &mut Random, written: &mut Written) {
+    for (_, expression) in &mut written.rules {
+        *expression = pad(random, expression, 64);
+    }
+}
+
+fn growing(bits: usize, rules: usize) -> Case {
+    Case { name: format!("N {bits}, R {rules}"), text: growing_model(bits, rules).text() }
 }
 
 /// Bits that must stay 0, up to four of them, and rules that keep one of them as it is, in turn: the form is the same
 /// for every N and R, so that only the size grows.
-fn growing(bits: usize, rules: usize) -> Case {
+fn growing_model(bits: usize, rules: usize) -> Written {
     let kept = bits.min(rules).min(4);
     let none_set = format!("!{}", join('|', &(0..kept).map(now).collect::<Vec<_>>()));
     let keeper = |bit| format!(">{}{}", later(bit), now(bit));
     let rules_written = (0..rules).map(|rule| (format!("r{rule}"), keeper(rule % kept))).collect();
-    let written = Written { bits, init: none_set.clone(), prop: none_set, rules: rules_written };
-    Case { name: format!("N {bits}, R {rules}"), text: written.text() }
+    Written { bits, init: none_set.clone(), properties: vec![none_set], rules: rules_written }
 }
 
 fn table(title: &str, cases: Vec<Case>) {
@@ -175,6 +184,77 @@ fn verdicts(text: &[u8]) -> Verdicts {
 
 fn read(text: &[u8]) -> Model {
     text::read(text).expect("an accepted model")
+}
+
+/// The same model in two texts: with four properties, and with one property that is their conjunction.
+struct Conjoined {
+    name: String,
+    written: Written,
+    four: Vec<u8>,
+    one: Vec<u8>,
+}
+
+impl Conjoined {
+    fn of(name: &str, written: &Written, four: &[String]) -> Conjoined {
+        assert_eq!(four.len(), 4, "{name}");
+        Conjoined {
+            name: name.to_string(),
+            written: written.clone(),
+            four: written.with_properties(four.to_vec()).text(),
+            one: written.with_properties(vec![join('&', four)]).text(),
+        }
+    }
+
+    /// Of the bits that the model's property wants to be 0 one in each property, and the others in the last; where they are
+    /// fewer than four, some of them again.
+    fn by_bit(name: &str, written: &Written) -> Conjoined {
+        let letters: Vec<char> = written.properties[0].chars().filter(char::is_ascii_lowercase).collect();
+        let each = (0..letters.len().max(4)).map(|place| format!("!{}", letters[place % letters.len()]));
+        let mut four: Vec<String> = each.collect();
+        let others = four.split_off(3);
+        four.push(join('&', &others));
+        Conjoined::of(name, written, &four)
+    }
+}
+
+/// The smallest models, where three lines more to read tell most, and some of the largest.
+fn conjoined_models() -> Vec<Conjoined> {
+    let sizes = [(1, 1), (2, 2), (3, 3), (4, 4), (7, 1), (7, 4), (7, 16)];
+    let by_size =
+        |(bits, rules)| Conjoined::by_bit(&format!("N {bits}, R {rules}"), &growing_model(bits, rules));
+    let mut models: Vec<Conjoined> = sizes.map(by_size).into();
+    let alternatives = model_of(&mut Random::new(8), Kind::Alternatives, 7, 16);
+    models.push(Conjoined::by_bit("alternatives, hundreds", &alternatives));
+    // Together they say that `a` is 0, as the one property of these models does.
+    let four = ["|!ab", "|!a!b", "|!ac", "|!a!c"].map(str::to_string);
+    let mut dense = model_of(&mut Random::new(2), Kind::Dense, 7, 16);
+    models.push(Conjoined::of("dense, hundreds", &dense, &four));
+    pad_rules(&mut Random::new(2), &mut dense);
+    models.push(Conjoined::of("dense, 64-byte rules", &dense, &four));
+    models
+}
+
+fn table_of_properties() {
+    println!("Four properties next to one that is their conjunction");
+    let heading = |call| format!(" {call:>9} {:>9} {:>7}", "one", "ratio");
+    println!("{:<22} {:>1} {:>2} |{} |{}", "model", "N", "R", heading("cores"), heading("cuts"));
+    for model in conjoined_models() {
+        let (cores, cuts) = (conjoined_list(&model, calls::cores), conjoined_list(&model, calls::cuts));
+        let Conjoined { name, written, .. } = model;
+        println!("{name:<22} {:>1} {:>2} |{cores} |{cuts}", written.bits, written.rules.len());
+    }
+    println!();
+}
+
+/// Both texts have the same list.
+fn conjoined_list(model: &Conjoined, call: fn(&[u8], &mut [u8]) -> Result<usize, Refused>) -> NextToOne {
+    let (mut sets_of_four, mut sets_of_one) = (vec![0; calls::LIST_BYTES], vec![0; calls::LIST_BYTES]);
+    let times = in_turns(
+        || call(&model.four, &mut sets_of_four).expect("an accepted model"),
+        || call(&model.one, &mut sets_of_one).expect("an accepted model"),
+    );
+    assert_eq!(sets_of_four, sets_of_one, "{}: lent bytes, four properties left, one right", model.name);
+    times
 }
 
 /// Lists of which every set is passed over, as long as any model's.
@@ -271,8 +351,53 @@ fn median<T>(mut run: impl FnMut() -> T) -> (T, Duration) {
         times.push(start.elapsed());
         let enough = times.len() >= FEWEST_RUNS && begun.elapsed() >= TIME_FOR_RUNS;
         if enough || times.len() == MOST_RUNS {
-            times.sort();
-            return (answer, times[times.len() / 2]);
+            return (answer, middle(times));
         }
     }
+}
+
+fn middle(mut times: Vec<Duration>) -> Duration {
+    times.sort();
+    times[times.len() / 2]
+}
+
+/// How long a list takes with four properties, and with one that is their conjunction.
+struct NextToOne {
+    four: Duration,
+    one: Duration,
+}
+
+impl std::fmt::Display for NextToOne {
+    fn fmt(&self, out: &mut std::fmt::Formatter) -> std::fmt::Result {
+        let milliseconds = |time: Duration| time.as_secs_f64() * 1000.0;
+        let (four, one) = (milliseconds(self.four), milliseconds(self.one));
+        write!(out, " {four:>9.4} {one:>9.4} {:>7.2}", four / one)
+    }
+}
+
+/// The median times of two calls with the same answer, made in turns so that both meet the same machine. Calls that take
+/// little are made several times on end, so that looking at the clock does not count.
+fn in_turns<T: PartialEq + std::fmt::Debug>(
+    mut four: impl FnMut() -> T,
+    mut one: impl FnMut() -> T,
+) -> NextToOne {
+    const ON_END: Duration = Duration::from_micros(50);
+    let start = Instant::now();
+    assert_eq!(four(), one(), "four properties left, one right");
+    let calls = (2 * ON_END.as_nanos() / start.elapsed().as_nanos().max(1)).max(1) as u32;
+    let begun = Instant::now();
+    let (mut times_of_four, mut times_of_one) = (Vec::new(), Vec::new());
+    while times_of_four.len() < MOST_RUNS && begun.elapsed() < 4 * TIME_FOR_RUNS {
+        times_of_four.push(time_of_each(calls, &mut four));
+        times_of_one.push(time_of_each(calls, &mut one));
+    }
+    NextToOne { four: middle(times_of_four), one: middle(times_of_one) }
+}
+
+fn time_of_each<T>(calls: u32, mut run: impl FnMut() -> T) -> Duration {
+    let start = Instant::now();
+    for _ in 0..calls {
+        black_box(run());
+    }
+    start.elapsed() / calls
 }

@@ -1,6 +1,7 @@
 //! The report, as docs/FORMAT.md, "The report", has it.
 
 use super::answers::Answers;
+use super::system::TransitionSystem;
 use super::text::{self, Model};
 use super::trace::trace;
 
@@ -22,14 +23,8 @@ pub fn report(input: &[u8]) -> Vec<u8> {
 /// The lines, without their ends.
 fn of_accepted(model: &Model) -> Vec<String> {
     let answers = Answers::of_model(model);
-    let mut lines = Vec::new();
-    match trace(&answers.system, answers.system.full_set()) {
-        None => lines.push("verdict=holds".to_string()),
-        Some(run) => {
-            lines.push("verdict=broken".to_string());
-            lines.extend(run.iter().map(|state| format!("state={state}")));
-        }
-    }
+    let by_property = |place| verdict(&answers.system.by_property(place));
+    let mut lines: Vec<String> = (0..model.properties.len()).flat_map(by_property).collect();
     lines.push(format!("must={}", names(model, answers.must)));
     lines.push(format!("may={}", names(model, answers.may)));
     lines.push(format!("irr={}", names(model, answers.irrelevant)));
@@ -38,6 +33,17 @@ fn of_accepted(model: &Model) -> Vec<String> {
     lines.push(format!("cuts={}", answers.cuts.len()));
     lines.extend(answers.cuts.iter().map(|cut| format!("cut={}", names(model, *cut))));
     lines
+}
+
+/// The verdict on the full set, and the states of its trace if it is broken.
+fn verdict(system: &TransitionSystem) -> Vec<String> {
+    match trace(system, system.full_set()) {
+        None => vec!["verdict=holds".to_string()],
+        Some(run) => {
+            let states = run.iter().map(|state| format!("state={state}"));
+            ["verdict=broken".to_string()].into_iter().chain(states).collect()
+        }
+    }
 }
 
 /// A set as names in the model's order with commas; the empty set is `-`.

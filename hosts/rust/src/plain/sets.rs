@@ -48,10 +48,10 @@ fn in_some(sets: &[u16]) -> u16 {
     sets.iter().fold(0, |union, set| union | set)
 }
 
-/// The sets with the property of which no proper part has it: fewer rules first, then by set number.
-pub fn minimal(full_set: u16, has: impl Fn(u16) -> bool) -> Vec<u16> {
+/// The sets that are as asked while no proper part of them is: fewer rules first, then by set number.
+pub fn minimal(full_set: u16, is_asked: impl Fn(u16) -> bool) -> Vec<u16> {
     let mut sets: Vec<u16> =
-        (0..=full_set).filter(|set| has(*set) && !proper_parts(*set).any(&has)).collect();
+        (0..=full_set).filter(|set| is_asked(*set) && !proper_parts(*set).any(&is_asked)).collect();
     sets.sort_by_key(|set| (set.count_ones(), *set));
     sets
 }

@@ -7,7 +7,8 @@ use crate::answer::{Reason, Refused};
 pub struct Model {
     pub bits: usize,
     pub init: Expression,
-    pub prop: Expression,
+    /// One to four, in the text's order.
+    pub properties: Vec<Expression>,
     pub rules: Vec<Rule>,
 }
 
@@ -16,6 +17,8 @@ pub struct Rule {
     pub name: Vec<u8>,
     pub expression: Expression,
 }
+
+const MOST_PROPERTIES: usize = 4;
 
 /// Reads a model, or gives the first number that fits: line by line, and in the order of the numbers within a line.
 pub fn read(text: &[u8]) -> Result<Model, Refused> {
@@ -26,8 +29,7 @@ pub fn read(text: &[u8]) -> Result<Model, Refused> {
     let rule_count = lines.in_this_line(read_count(value, 16))?;
     let value = lines.value_due(b"init=")?;
     let init = lines.in_this_line(expression::read(value, bits, Place::InitOrProp))?;
-    let value = lines.value_due(b"prop=")?;
-    let prop = lines.in_this_line(expression::read(value, bits, Place::InitOrProp))?;
+    let properties = read_properties(&mut lines, bits)?;
     let mut rules = Vec::new();
     for _ in 0..rule_count {
         let value = lines.value_due(b"rule=")?;
@@ -37,7 +39,21 @@ pub fn read(text: &[u8]) -> Result<Model, Refused> {
     if !lines.rest.is_empty() {
         return Err(Refused::new(Reason::BytesFollow, lines.number + 1));
     }
-    Ok(Model { bits, init, prop, rules })
+    Ok(Model { bits, init, properties, rules })
+}
+
+/// A property line is due. The next line is one too if it starts with the key, up to the fourth of them; after that a rule
+/// line is due.
+fn read_properties(lines: &mut Lines, bits: usize) -> Result<Vec<Expression>, Refused> {
+    const KEY: &[u8] = b"prop=";
+    let mut properties = Vec::new();
+    loop {
+        let value = lines.value_due(KEY)?;
+        properties.push(lines.in_this_line(expression::read(value, bits, Place::InitOrProp))?);
+        if properties.len() == MOST_PROPERTIES || !lines.rest.starts_with(KEY) {
+            return Ok(properties);
+        }
+    }
 }
 
 /// The lines not yet read, and the number of the line read last (the first is 1).

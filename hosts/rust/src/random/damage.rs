@@ -1,11 +1,11 @@
 //! Damaged texts: bytes dropped, put in and changed, lines swapped and repeated, cut off, and the faults that chance
-//! alone would seldom make.
+//! alone would seldom make, among them too many, missing and misplaced property lines.
 
 use super::generator::Random;
 
 type Damage = fn(&mut Random, Vec<u8>) -> Vec<u8>;
 
-const DAMAGES: [Damage; 13] = [
+const DAMAGES: [Damage; 19] = [
     drop_byte,
     put_in_byte,
     change_byte,
@@ -19,6 +19,12 @@ const DAMAGES: [Damage; 13] = [
     lengthen_expression,
     empty_value,
     capital_letter,
+    repeat_property,
+    five_properties,
+    drop_properties,
+    misplace_property,
+    end_in_property,
+    change_property_key,
 ];
 
 /// The text with one to three damages; it may still be accepted.
@@ -115,12 +121,13 @@ fn change_count(random: &mut Random, text: Vec<u8>) -> Vec<u8> {
 /// The name of one rule line is given to another.
 fn repeat_name(random: &mut Random, text: Vec<u8>) -> Vec<u8> {
     let lines = lines(&text);
-    if lines.len() < 6 {
+    let rules = places_of(&lines, b"rule=");
+    if rules.len() < 2 {
         return text;
     }
-    let from = random.between(4, lines.len() - 1);
-    let name = lines[from][..after_name(&lines[from])].to_vec();
-    change_line(text, random.between(4, lines.len() - 1), |line| {
+    let from = &lines[random.pick(&rules)];
+    let name = from[..after_name(from)].to_vec();
+    change_line(text, random.pick(&rules), |line| {
         line.splice(..after_name(line), name);
     })
 }
@@ -146,14 +153,90 @@ fn empty_value(random: &mut Random, text: Vec<u8>) -> Vec<u8> {
     })
 }
 
-/// A capital letter in `init` or `prop`, in place of the first letter there.
+/// A capital letter in `init` or a property, in place of the first letter there.
 fn capital_letter(random: &mut Random, text: Vec<u8>) -> Vec<u8> {
-    change_line(text, random.between(2, 3), |line| {
+    let lines = lines(&text);
+    let places = [places_of(&lines, b"init="), places_of(&lines, PROPERTY)].concat();
+    if places.is_empty() {
+        return text;
+    }
+    change_line(text, random.pick(&places), |line| {
         let start = after_key(line);
         if let Some(letter) = line[start..].iter_mut().find(|byte| byte.is_ascii_lowercase()) {
             letter.make_ascii_uppercase();
         }
     })
+}
+
+const PROPERTY: &[u8] = b"prop=";
+
+/// The lines and one of the places of a property line; none if there is no such line.
+fn property_line(random: &mut Random, text: &[u8]) -> Option<(Vec<Vec<u8>>, usize)> {
+    let lines = lines(text);
+    let places = places_of(&lines, PROPERTY);
+    if places.is_empty() {
+        return None;
+    }
+    Some((lines, random.pick(&places)))
+}
+
+/// A property line once more, right after it: of one to four there are two to five then.
+fn repeat_property(random: &mut Random, text: Vec<u8>) -> Vec<u8> {
+    let Some((mut lines, place)) = property_line(random, &text) else { return text };
+    lines.insert(place, lines[place].clone());
+    lines.concat()
+}
+
+/// A property line again and again, until there are five of them.
+fn five_properties(random: &mut Random, text: Vec<u8>) -> Vec<u8> {
+    let Some((mut lines, place)) = property_line(random, &text) else { return text };
+    while places_of(&lines, PROPERTY).len() < 5 {
+        lines.insert(place, lines[place].clone());
+    }
+    lines.concat()
+}
+
+/// One property line less, or none left.
+fn drop_properties(random: &mut Random, text: Vec<u8>) -> Vec<u8> {
+    let Some((mut lines, place)) = property_line(random, &text) else { return text };
+    if random.percent(50) {
+        lines.remove(place);
+    } else {
+        lines.retain(|line| !line.starts_with(PROPERTY));
+    }
+    lines.concat()
+}
+
+/// A property line at another place: before `init`, between the rules, at the end.
+fn misplace_property(random: &mut Random, text: Vec<u8>) -> Vec<u8> {
+    let Some((mut lines, place)) = property_line(random, &text) else { return text };
+    let line = lines.remove(place);
+    lines.insert(random.below(lines.len() + 1), line);
+    lines.concat()
+}
+
+/// The text ends in a property line, mostly with nothing missing there but its byte 10.
+fn end_in_property(random: &mut Random, text: Vec<u8>) -> Vec<u8> {
+    let Some((mut lines, place)) = property_line(random, &text) else { return text };
+    lines.truncate(place + 1);
+    let longest = lines[place].len() - 1;
+    let kept = if random.percent(60) { longest } else { random.below(longest + 1) };
+    lines[place].truncate(kept);
+    lines.concat()
+}
+
+/// Another key, or nearly the same.
+fn change_property_key(random: &mut Random, text: Vec<u8>) -> Vec<u8> {
+    const KEYS: [&str; 9] =
+        ["prop", "prop:", "prop =", " prop=", "Prop=", "props=", "pro=", "rule=", "init="];
+    let Some((mut lines, place)) = property_line(random, &text) else { return text };
+    lines[place].splice(..PROPERTY.len(), random.pick(&KEYS).bytes());
+    lines.concat()
+}
+
+/// Where the lines with this key stand; the first line is 0.
+fn places_of(lines: &[Vec<u8>], key: &[u8]) -> Vec<usize> {
+    (0..lines.len()).filter(|place| lines[*place].starts_with(key)).collect()
 }
 
 fn change_line(text: Vec<u8>, place: usize, change: impl FnOnce(&mut Vec<u8>)) -> Vec<u8> {

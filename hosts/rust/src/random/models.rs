@@ -1,7 +1,8 @@
 //! Random accepted models. Freely mixed expressions mostly give models without any core, so most kinds have a plan.
 
 use super::generator::Random;
-use super::written::{expression, join, later, names, now, pad, Written};
+use super::properties::with_several_properties;
+use super::written::{expression, join, later, literal, names, now, pad, Written};
 
 #[derive(Clone, Copy, Debug, PartialEq, Eq)]
 pub enum Kind {
@@ -22,10 +23,12 @@ pub enum Kind {
 pub const KINDS: [Kind; 6] =
     [Kind::Wild, Kind::Clauses, Kind::Alternatives, Kind::Joint, Kind::Counter, Kind::Dense];
 
-/// A model of a random kind, one in five with a twist.
+/// A model of a random kind with one to four properties, one in five with a twist.
 pub fn model(random: &mut Random, bits: usize, rules: usize) -> Written {
     let kind = random.pick(&KINDS);
     let mut written = model_of(random, kind, bits, rules);
+    let count = random.between(1, 4);
+    with_several_properties(random, &mut written, count);
     match random.below(20) {
         0 => without_start_state(random, &mut written),
         1 => with_contradiction(random, &mut written),
@@ -36,6 +39,7 @@ pub fn model(random: &mut Random, bits: usize, rules: usize) -> Written {
     written
 }
 
+/// A model with one property.
 pub fn model_of(random: &mut Random, kind: Kind, bits: usize, rules: usize) -> Written {
     let (init, prop, mut expressions) = match kind {
         Kind::Wild => wild(random, bits, rules),
@@ -47,9 +51,10 @@ pub fn model_of(random: &mut Random, kind: Kind, bits: usize, rules: usize) -> W
     };
     random.shuffle(&mut expressions);
     let rules = names(random, rules).into_iter().zip(expressions).collect();
-    Written { bits, init, prop, rules }
+    Written { bits, init, properties: vec![prop], rules }
 }
 
+/// `init`, the property, and the expressions of the rules.
 type Parts = (String, String, Vec<String>);
 
 fn wild(random: &mut Random, bits: usize, rules: usize) -> Parts {
@@ -89,14 +94,6 @@ fn rule_clause(random: &mut Random, bits: usize, start: usize) -> String {
     }
     random.shuffle(&mut literals);
     join('|', &literals)
-}
-
-fn literal(letter: String, positive: bool) -> String {
-    if positive {
-        letter
-    } else {
-        format!("!{letter}")
-    }
 }
 
 fn alternatives(random: &mut Random, bits: usize, rules: usize) -> Parts {
@@ -183,7 +180,7 @@ fn counted_bit(bit: usize) -> String {
 pub fn full_counter(bits: usize) -> Written {
     let all: Vec<String> = (0..bits).map(now).collect();
     let rules = (0..bits).map(|bit| (now(bit), counted_bit(bit))).collect();
-    Written { bits, init: none_of(&all), prop: format!("!{}", join('&', &all)), rules }
+    Written { bits, init: none_of(&all), properties: vec![format!("!{}", join('&', &all))], rules }
 }
 
 /// Every start state has `a` unset and every bad state has it set, so nearly every cut is what one pair breaks.
@@ -241,5 +238,7 @@ fn with_long_expressions(random: &mut Random, written: &mut Written) {
         written.rules[place].1 = pad(random, &written.rules[place].1, length);
     }
     written.init = pad(random, &written.init, 64);
-    written.prop = pad(random, &written.prop, 64);
+    for property in &mut written.properties {
+        *property = pad(random, property, 64);
+    }
 }

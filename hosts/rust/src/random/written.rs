@@ -7,19 +7,32 @@ use super::generator::Random;
 pub struct Written {
     pub bits: usize,
     pub init: String,
-    pub prop: String,
+    pub properties: Vec<String>,
     /// Names and expressions.
     pub rules: Vec<(String, String)>,
 }
 
 impl Written {
     pub fn text(&self) -> Vec<u8> {
-        let Written { bits, init, prop, rules } = self;
-        let mut text = format!("vars={bits}\nrules={}\ninit={init}\nprop={prop}\n", rules.len());
+        let Written { bits, init, properties, rules } = self;
+        let mut text = format!("vars={bits}\nrules={}\ninit={init}\n", rules.len());
+        for property in properties {
+            text += &format!("prop={property}\n");
+        }
         for (name, expression) in rules {
             text += &format!("rule={name}:{expression}\n");
         }
         text.into_bytes()
+    }
+
+    /// The same rules with other properties.
+    pub fn with_properties(&self, properties: Vec<String>) -> Written {
+        Written { properties, ..self.clone() }
+    }
+
+    /// Each property alone with the same rules, in the text's order.
+    pub fn by_property(&self) -> Vec<Written> {
+        self.properties.iter().map(|property| self.with_properties(vec![property.clone()])).collect()
     }
 }
 
@@ -29,6 +42,15 @@ pub fn now(bit: usize) -> String {
 
 pub fn later(bit: usize) -> String {
     char::from(b'A' + bit as u8).to_string()
+}
+
+/// A letter, or its negation.
+pub fn literal(letter: String, positive: bool) -> String {
+    if positive {
+        letter
+    } else {
+        format!("!{letter}")
+    }
 }
 
 /// Joins operands by an operator with two: `&`, a, b, c become `&a&bc`.

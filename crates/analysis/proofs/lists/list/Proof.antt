@@ -14,9 +14,9 @@ list-spec =
     (λ c κs.
     let g = c .before .before in
     let p = g .before .before .before .before .pre in
-    array-room 1024 3 (omega arith) (omega (arith, g .if1 .taken)) (p .vars) (p .rules))
+    array-room 1024 3 (omega arith) (omega (arith, g .if1 .taken)) p)
     (λ c. repeats 16384 0)
-    (λ c κs. let p = c .before .before .before .before .before .before .pre in array-room 16384 7 (omega arith) (p .vars) (p .vars) (p .rules))
+    (λ c κs. let p = c .before .before .before .before .before .before .pre in array-room 16384 7 (omega arith) (p .vars) p)
     (λ c. search needs)
     (λ c. c .before .before .before .list-with .ensures)
     (λ c. search needs)

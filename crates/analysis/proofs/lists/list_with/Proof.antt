@@ -40,10 +40,10 @@ abbrev judgement : tie.Start → ℕ → Bool
 judgement s = judge (described (s .args .text .now) (s .args .m))
 
 room-few : (c : tie.Then1) → RoomForSets (start-few c .args .m .rules) (zeros 4) (zeros 4) (zeros 4)
-room-few c = array-sets 4 8 (omega arith) (c .if1 .taken) (start-few c .pre .rules)
+room-few c = array-sets 4 8 (omega arith) (c .if1 .taken) (start-few c .pre .few .rules)
 
 room-many : (c : tie.Else1) → RoomForSets (start-many c .args .m .rules) (zeros 1024) (zeros 1024) (zeros 1024)
-room-many c = array-sets 1024 16 (omega arith) (start-many c .pre .rules) (start-many c .pre .rules)
+room-many c = array-sets 1024 16 (omega arith) (start-many c .pre .few .rules) (start-many c .pre .few .rules)
 
 pub list-with-spec : {M : Type 1} → statement M
 list-with-spec =

@@ -10,8 +10,8 @@ must-spec =
     tie.close
     (tie.spec
     (λ c. repeats 1024 0)
-    (λ c κs. let p = c .before .before .before .before .pre in array-room 1024 3 (omega arith) (omega (arith, c .before .if1 .taken)) (p .vars) (p .rules))
+    (λ c κs. let p = c .before .before .before .before .pre in array-room 1024 3 (omega arith) (omega (arith, c .before .if1 .taken)) p)
     (λ c. repeats 16384 0)
-    (λ c κs. let p = c .before .before .before .before .pre in array-room 16384 7 (omega arith) (p .vars) (p .vars) (p .rules))
+    (λ c κs. let p = c .before .before .before .before .pre in array-room 16384 7 (omega arith) (p .vars) p)
     (λ c. c .before .must-with .ensures)
     (λ c. c .before .must-with2 .ensures))

@@ -10,8 +10,8 @@ trace-spec =
     tie.close
     (tie.spec
     (λ c. repeats 1024 0)
-    (λ c κs. let p = c .before .before .before .before .pre in (array-room 1024 3 (omega arith) (omega (arith, c .before .if1 .taken)) (p .0 .vars) (p .0 .rules), p .1))
+    (λ c κs. let p = c .before .before .before .before .pre in (array-room 1024 3 (omega arith) (omega (arith, c .before .if1 .taken)) (p .0), p .1))
     (λ c. repeats 16384 0)
-    (λ c κs. let p = c .before .before .before .before .pre in (array-room 16384 7 (omega arith) (p .0 .vars) (p .0 .vars) (p .0 .rules), p .1))
+    (λ c κs. let p = c .before .before .before .before .pre in (array-room 16384 7 (omega arith) (p .0 .vars) (p .0), p .1))
     (λ c. c .before .trace-with .ensures)
     (λ c. c .before .trace-with2 .ensures))

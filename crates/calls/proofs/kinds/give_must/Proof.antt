@@ -3,8 +3,8 @@
 use mathlib.Core.Path.{_∙_}
 use Rattle.sorting.specs.declared.kinds.Kind.the-variants.{Must}
 use Rattle.sorting.specs.Which.{ofKind}
-use Rattle.calls.specs.Laws.Answers.{is-read, is-refused}
-use Rattle.calls.proofs.ListFacts.{few, kind-told, kind-found, kind-refused}
+use Rattle.calls.specs.Laws.Answers.{few, is-read, is-refused}
+use Rattle.calls.proofs.ListFacts.{kind-told, kind-found, kind-refused}
 use Rattle.calls.proofs.kinds.give_must.Statement.{statement}
 use Rattle.calls.proofs.kinds.give_must.Tie as tie
 

@@ -4,7 +4,8 @@ use borrow.Author.Needs.{needs}
 use Rattle.sorting.specs.declared.kinds.Kind.the-variants.{Must, May, Irrelevant}
 use Rattle.sorting.specs.Which.{ofKind}
 use Rattle.sorting.specs.Kinds.{kindsOf}
-use Rattle.calls.proofs.ListFacts.{few, kind-told}
+use Rattle.calls.specs.Laws.Answers.{few}
+use Rattle.calls.proofs.ListFacts.{kind-told}
 use Rattle.calls.proofs.kinds.rules_of.Statement.{statement}
 use Rattle.calls.proofs.kinds.rules_of.Tie as tie
 

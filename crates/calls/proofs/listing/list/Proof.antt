@@ -1,8 +1,8 @@
 -- `calls::listing::list` meets its contract: a refused text is answered by its number and line, and the list of an accepted one is found as it
 -- is read. Assumes nothing.
 use borrow.Author.Needs.{needs}
-use Rattle.calls.specs.Laws.Answers.{is-read, is-refused}
-use Rattle.calls.proofs.ListFacts.{few, list-found, list-refused}
+use Rattle.calls.specs.Laws.Answers.{few, is-read, is-refused}
+use Rattle.calls.proofs.ListFacts.{list-found, list-refused}
 use Rattle.calls.proofs.listing.list.Statement.{statement}
 use Rattle.calls.proofs.listing.list.Tie as tie
 

@@ -8,14 +8,15 @@ use borrow.Author.Needs.{needs}
 use lib.ListN.{length, drop}
 use Rattle.lines.specs.declared.line.Line.{Line}
 use Rattle.lines.specs.declared.line.Line.the-variants.{Fault, Read}
-use Rattle.lines.specs.Lines.{faultNumber, varsKey, rulesKey, initKey, propKey, countLine, stateLine}
+use Rattle.lines.specs.Lines.{faultNumber, varsKey, rulesKey, initKey, countLine, stateLine}
 use Rattle.lines.specs.Laws.Heard.{SaysWithin, says-of, count-heard, state-heard}
-use Rattle.models.specs.declared.model.LineStart.{LineStart}
+use Rattle.models.specs.declared.progress.LineStart.{LineStart}
 use Rattle.models.specs.declared.model.Reading.{Reading}
-use Rattle.models.specs.declared.model.Rules.{Rules}
+use Rattle.models.specs.declared.progress.Progress.{Progress}
 use Rattle.models.specs.Places.{Placed, Passes}
-use Rattle.models.specs.Reading.{textStart, behindLine, refusedReading, finished, rulesRead, readModel}
-use Rattle.models.specs.Laws.Ranges.{place₂, place₃, place₄, passes, placed-behind}
+use Rattle.models.specs.Properties.{propertyCount}
+use Rattle.models.specs.Reading.{textStart, behindLine, refusedReading, finished, propertiesRead, rulesRead, readModel}
+use Rattle.models.specs.Laws.Ranges.{place₂, place₃, place₄, passes, placed-behind, properties-le, properties-placed}
 use Rattle.models.specs.Laws.Written.{read-is}
 use Rattle.models.proofs.model.read_model.Statement.{statement}
 use Rattle.models.proofs.model.read_model.Tie as tie
@@ -37,11 +38,6 @@ module _ (text : List ℕ) where
       unfolding readModel
       stop₃ q = rw (qa, qb, q)
 
-      module _ {init c : ℕ} (qc : stateLine initKey vars (drop (place₃ a b .at) text) ≡ Read init c) where
-        stop₄ : {n : ℕ} → stateLine propKey vars (drop (place₄ a b c .at) text) ≡ Fault n → readModel text ≡ refusedReading n (place₄ a b c .line)
-        unfolding readModel
-        stop₄ q = rw (qa, qb, qc, q)
-
 -- ---- a line at the place q, which is the place p of the definition
 
 moved : (read : List ℕ → Line) (text : List ℕ) {q p : LineStart} {m : Line} → q ≡ p → read (drop (q .at) text) ≡ m → read (drop (p .at) text) ≡ m
@@ -55,14 +51,17 @@ at-fault : {r : Reading} {n k : ℕ} {l : Line} {q p : LineStart} → r ≡ refu
 at-fault said number told place = said ∙ ap₂ (λ n (x : LineStart). refusedReading n (x .line)) (number ∙ ap faultNumber told) place
 
 -- what the code ends with
-at-end : (text : List ℕ) (n count init prop : ℕ) {q₃ p₃ q₄ p₄ q₅ p₅ : LineStart} {r : Rules} {x : Reading} → q₃ ≡ p₃ → q₄ ≡ p₄ → q₅ ≡ p₅
-    → r ≡ rulesRead text n q₅ count → x ≡ finished text n count (q₃ .at + init) (q₄ .at + prop) r
-    → x ≡ finished text n count (p₃ .at + init) (p₄ .at + prop) (rulesRead text n p₅ count)
-at-end text n count init prop {q₃} {p₃} {q₄} {p₄} {q₅} {p₅} {r} e₃ e₄ e₅ read said =
+at-end : (text : List ℕ) (n count init : ℕ) {properties : ℕ} {q₃ p₃ q₄ p₄ : LineStart} {s : List ℕ} {before r : Progress} {x : Reading} → q₃ ≡ p₃ → q₄ ≡ p₄
+    → s ≡ drop (q₄ .at) text → properties ≡ propertyCount s → before ≡ propertiesRead text n q₄ properties → r ≡ rulesRead text n before count
+    → x ≡ finished text n count (q₃ .at + init) properties r
+    → let counted = propertyCount (drop (p₄ .at) text) in
+    x ≡ finished text n count (p₃ .at + init) counted (rulesRead text n (propertiesRead text n p₄ counted) count)
+at-end text n count init {properties} {p₃ = p₃} {p₄ = p₄} {r = r} e₃ e₄ rest counted first others said =
     said
-    ∙ ap (λ (p : LineStart). finished text n count (p .at + init) (q₄ .at + prop) r) e₃
-    ∙ ap (λ (p : LineStart). finished text n count (p₃ .at + init) (p .at + prop) r) e₄
-    ∙ ap (finished text n count (p₃ .at + init) (p₄ .at + prop)) (read ∙ ap (λ (p : LineStart). rulesRead text n p count) e₅)
+    ∙ ap (λ (p : LineStart). finished text n count (p .at + init) properties r) e₃
+    ∙ ap (finished text n count (p₃ .at + init) properties) (others ∙ ap (λ (b : Progress). rulesRead text n b count) (first ∙ ap (λ (p : LineStart). propertiesRead text n p properties) e₄))
+    ∙ ap (λ (m : ℕ). finished text n count (p₃ .at + init) m (rulesRead text n (propertiesRead text n p₄ m) count))
+    (counted ∙ ap propertyCount (rest ∙ ap (λ (p : LineStart). drop (p .at) text) e₄))
 
 placed-first : (text : List ℕ) → Placed text textStart
 placed-first text = record { within = omega arith; counted = omega arith }
@@ -153,39 +152,16 @@ module _ (p : tie.After-c) where
   heard-c : stateLine initKey vars-c (drop (place₃ (bytes-a (a-of b-of)) (bytes-b b-of) .at) text-c) ≡ Read (p .c .given .0 .0) bytes-c
   heard-c = moved (stateLine initKey vars-c) text-c place-c said-c
 
-module _ (p : tie.After-d) where
+-- the property lines are due
+module _ (p : tie.After-behind3) where
   abbrev c-of : tie.After-c
-  c-of = p .before .before .before .before .before .before .before
+  c-of = p .before .before
 
-  abbrev text-d : List ℕ
-  text-d = text-c c-of
+  place-d : p .behind3 .result ≡ place₄ (bytes-a (a-of (b-of c-of))) (bytes-b (b-of c-of)) (bytes-c c-of)
+  place-d = p .behind3 .ensures ∙ ap (λ (x : LineStart). behindLine x (bytes-c c-of)) (place-c c-of)
 
-  abbrev vars-d : ℕ
-  vars-d = vars-c c-of
-
-  abbrev at-d : LineStart
-  at-d = p .before .before .before .before .before .behind3 .result
-
-  abbrev bytes-d : ℕ
-  bytes-d = p .d .given .0 .1 .0
-
-  place-d : at-d ≡ place₄ (bytes-a (a-of (b-of c-of))) (bytes-b (b-of c-of)) (bytes-c c-of)
-  place-d = p .before .before .before .before .before .behind3 .ensures ∙ ap (λ (x : LineStart). behindLine x (bytes-c c-of)) (place-c c-of)
-
-  placed-d : Placed text-d at-d
-  placed-d = subst (Placed text-d) (sym (p .before .before .before .before .before .behind3 .ensures)) (placed-behind (says-c c-of .within .atLeast) (passes-c c-of))
-
-  said-d : stateLine propKey vars-d (drop (at-d .at) text-d) ≡ Read (p .d .given .0 .0) bytes-d
-  said-d = heard (stateLine propKey vars-d) (p .before .before .state-line2 .ensures) (p .before .before .before .rest4 .ensures .0) (p .d .given .1)
-
-  says-d : SaysWithin (drop (at-d .at) text-d) (length propKey) (p .d .given .0 .0) bytes-d
-  says-d = says-of (state-heard propKey vars-d (drop (at-d .at) text-d)) said-d
-
-  passes-d : Passes text-d at-d bytes-d
-  passes-d = passes placed-d (says-d .within)
-
-  heard-d : stateLine propKey vars-d (drop (place₄ (bytes-a (a-of (b-of c-of))) (bytes-b (b-of c-of)) (bytes-c c-of) .at) text-d) ≡ Read (p .d .given .0 .0) bytes-d
-  heard-d = moved (stateLine propKey vars-d) text-d place-d said-d
+  placed-d : Placed (text-c c-of) (p .behind3 .result)
+  placed-d = subst (Placed (text-c c-of)) (sym (p .behind3 .ensures)) (placed-behind (says-c c-of .within .atLeast) (passes-c c-of))
 
 pub read-model-spec : {M : Type 1} → statement M
 read-model-spec =
@@ -237,41 +213,28 @@ read-model-spec =
     (moved (stateLine initKey (vars-of a)) (text a) place
     (heard (stateLine initKey (vars-of a)) (l .before .before .state-line .ensures) (l .before .before .before .rest3 .ensures .0) (l .enum-told3 .given .1)))))
     (λ c κs. passes-c (c .before))
-    (λ c. search needs)
     (λ c κs. search needs)
     (λ c κs. search needs)
-    (λ c. search needs)
-    (λ c. search needs)
-    (λ c κs. search needs)
-    (λ c κs. search needs)
-    (λ c.
-    let l = c .before .before in
-    let q = l .before .before .before .before .before in
-    let p = q .before .before in
-    let b = b-of p in
-    let a = a-of b in
-    let place = q .behind3 .ensures ∙ ap (λ (x : LineStart). behindLine x (bytes-c p)) (place-c p) in
-    at-fault (c .refuse4 .ensures) (c .before .fault-number4 .ensures) (l .enum-told4 .given .1) place
-    ∙ sym (stop₄ (text a) (heard-a a) (heard-b b) (heard-c p)
-    (moved (stateLine propKey (vars-of a)) (text a) place
-    (heard (stateLine propKey (vars-of a)) (l .before .before .state-line2 .ensures) (l .before .before .before .rest4 .ensures .0) (l .enum-told4 .given .1)))))
-    (λ c κs. passes-d (c .before))
     (λ c κs.
     let d = c .before .before in
+    record { few = omega (arith, c .property-count .ensures, properties-le (c .before .rest4 .result .now)); place = placed-d d })
+    (λ c κs.
+    let d = c .before .before .before in
+    let p = c-of d in
     record {
-      few = says-b (b-of (c-of d)) .small;
-      place = subst (Placed (text-d d)) (sym (c .behind4 .ensures)) (placed-behind (says-d d .within .atLeast) (passes-d d));
+      few = says-b (b-of p) .small;
+      place = subst (λ (r : Progress). Placed (text-c p) (r .place)) (sym (c .property-lines .ensures)) (properties-placed (text-c p) (vars-c p) (d .behind3 .result) (placed-d d) _);
     })
-    (λ c. let p = c-of (c .before .before .before .before) in omega (arith, says-c p .small, placed-c p .within, start (a-of (b-of p)) .good .0))
     (λ c.
-    let d = c .before .before .before .before .before in
-    omega (arith, says-d d .small, placed-d d .within, start (a-of (b-of (c-of d))) .good .0))
+    let p = c-of (c .before .before .before .before .before) in
+    omega (arith, says-c p .small, placed-c p .within, start (a-of (b-of p)) .good .0))
     (λ c κs. search needs)
     (λ c.
-    let e = c .before .before .before .before in
-    let d = e .before .before in
+    let r = c .before .before in
+    let f = r .before in
+    let d = f .before .before .before in
     let p = c-of d in
     let b = b-of p in
     let a = a-of b in
-    at-end (text a) _ _ _ _ (place-c p) (place-d d) (e .behind4 .ensures ∙ ap (λ (x : LineStart). behindLine x (bytes-d d)) (place-d d)) (c .before .before .before .rule-lines .ensures) (c .finish .ensures)
-    ∙ sym (read-is (text a) (heard-a a) (heard-b b) (heard-c p) (heard-d d))))
+    at-end (text a) _ _ _ (place-c p) (place-d d) (f .before .before .rest4 .ensures .0) (f .before .property-count .ensures) (f .property-lines .ensures) (r .rule-lines .ensures) (c .finish .ensures)
+    ∙ sym (read-is (text a) (heard-a a) (heard-b b) (heard-c p))))

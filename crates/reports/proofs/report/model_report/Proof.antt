@@ -5,15 +5,13 @@ use mathlib.Core.Bool.{Bool}
 use mathlib.Core.List.{List, _++_}
 use borrow.Author.Needs.{needs}
 use lib.ListN.{length}
-use Rattle.sets.specs.Bit.{full}
 use Rattle.models.specs.Written.{Described, modelIn}
-use Rattle.systems.specs.System.{System}
-use Rattle.semantics.specs.Meaning.{systemOf, judge}
+use Rattle.semantics.specs.Meaning.{judge}
 use Rattle.sorting.specs.declared.which.WhichList.{WhichList}
 use Rattle.sorting.specs.declared.which.WhichList.the-variants.{Cores, Cuts}
 use Rattle.sorting.specs.Which.{listed}
-use Rattle.calls.specs.Answers.{rulesIn, systemIn, judgeIn, listIn}
-use Rattle.sections.specs.Sections.{verdictLines, kindLines, listLines}
+use Rattle.calls.specs.Answers.{rulesIn, judgeIn, listIn}
+use Rattle.sections.specs.Sections.{verdictsOf, kindLines, listLines}
 use Rattle.reports.specs.Report.{modelReport}
 use Rattle.pages.specs.Laws.Putting.{put-as, both-put}
 use Rattle.reports.proofs.report.model_report.Statement.{statement}
@@ -27,21 +25,17 @@ cores-put p = p .before .before .before .before
 abbrev kinds-put : tie.After-list-lines → tie.After-kind-lines
 kinds-put p = p .before .before .before .before
 
--- behind the verdict, from behind the kinds of rules
-abbrev verdict-put : tie.After-kind-lines → tie.After-verdict-lines
-verdict-put p = p .before .before .before .before
+-- behind the verdicts, from behind the kinds of rules
+abbrev verdicts-put : tie.After-kind-lines → tie.After-verdict-lines
+verdicts-put p = p .before .before .before .before
 
 -- the four parts
-abbrev parts : Described → System → (ℕ → Bool) → List ℕ → List ℕ → List ℕ
-parts M N h cores cuts = verdictLines N ++ (kindLines M h ++ (listLines M Cores cores ++ listLines M Cuts cuts))
+abbrev parts : Described → (ℕ → Bool) → List ℕ → List ℕ → List ℕ
+parts M h cores cuts = verdictsOf M ++ (kindLines M h ++ (listLines M Cores cores ++ listLines M Cuts cuts))
 
 module _ (text : List ℕ) where
   R : ℕ
   R = length (modelIn text .rules)
-
-  system-is : systemIn text (full (rulesIn text)) ≡ systemOf (modelIn text) (full R)
-  unfolding systemIn rulesIn R
-  system-is = refl
 
   judge-is : judgeIn text ≡ judge (modelIn text)
   unfolding judgeIn
@@ -51,12 +45,11 @@ module _ (text : List ℕ) where
   unfolding listIn rulesIn judgeIn R
   list-is which = refl
 
-  parts-are : parts (modelIn text) (systemIn text (full (rulesIn text))) (judgeIn text) (listIn Cores text) (listIn Cuts text) ≡ modelReport (modelIn text)
+  parts-are : parts (modelIn text) (judgeIn text) (listIn Cores text) (listIn Cuts text) ≡ modelReport (modelIn text)
   unfolding modelReport R
   parts-are =
-      ap (λ (N : System). parts (modelIn text) N (judgeIn text) (listIn Cores text) (listIn Cuts text)) system-is
-      ∙ ap (λ h. parts (modelIn text) (systemOf (modelIn text) (full R)) h (listIn Cores text) (listIn Cuts text)) judge-is
-      ∙ ap₂ (parts (modelIn text) (systemOf (modelIn text) (full R)) (judge (modelIn text))) (list-is Cores) (list-is Cuts)
+      ap (λ h. parts (modelIn text) h (listIn Cores text) (listIn Cuts text)) judge-is
+      ∙ ap₂ (parts (modelIn text) (judge (modelIn text))) (list-is Cores) (list-is Cuts)
 
 pub model-report-spec : {M : Type 1} → statement M
 model-report-spec =
@@ -72,6 +65,6 @@ model-report-spec =
     let cores = cores-put cuts in
     let kinds = kinds-put cores in
     put-as _ _ _ _
-    (both-put _ _ _ _ _ (verdict-put kinds .verdict-lines .ensures)
+    (both-put _ _ _ _ _ (verdicts-put kinds .verdict-lines .ensures)
     (both-put _ _ _ _ _ (kinds .kind-lines .ensures) (both-put _ _ _ _ _ (cores .list-lines .ensures) (cuts .list-lines2 .ensures))))
     (parts-are _)))

@@ -1,6 +1,6 @@
 -- `sections::kinds::kind_lines` meets its contract: the three lines are put one after the other, and the sets are the text's own. Assumes nothing.
 use borrow.Author.Needs.{needs}
-use Rattle.calls.specs.Laws.Answers.{vars-le, rules-le}
+use Rattle.calls.specs.Laws.Answers.{few}
 use Rattle.pages.specs.Laws.Putting.{put-as, both-put}
 use Rattle.sections.proofs.Called.{kinds-read, kinds-are}
 use Rattle.sections.proofs.kinds.kind_lines.Statement.{statement}
@@ -31,7 +31,7 @@ pub kind-lines-spec : {M : Type 1} → statement M
 kind-lines-spec =
     tie.close
     (tie.spec
-    (λ c κs. let r = c .before .before .pre in record { vars = vars-le r; rules = rules-le r })
+    (λ c κs. few (c .before .before .pre))
     (λ c. search needs)
     (λ c κs. let k = for-must c in search (kinds-read _ _ (start k .pre) _ (k .kinds .ensures)))
     (λ c. search needs)

@@ -1,69 +1,43 @@
--- `sections::verdict::verdict_lines` meets its contract: the call is accepted, and what it answers picks the case of `verdictLines`.
+-- `sections::verdict::verdict_lines` meets its contract. The loop's invariant: the verdicts by the properties before property j are put.
 -- Assumes nothing.
-use Prim.Native.Nat.{ℕ}
-use borrow.Author.Needs.{needs}
-use lib.ListN.{length-replicate}
-use Rattle.lines.specs.Written.{line}
-use Rattle.calls.specs.Laws.Answers.{rules-le}
-use Rattle.pages.specs.Laws.Putting.{put-as, both-put}
-use Rattle.sections.proofs.Called.{accepted-call, verdict-held, trace-fits, trace-length, verdict-broken}
+use Prim.Native.Nat.{suc, _-_}
+use native.Mathlib.Omega.{arith}
+use Rattle.models.specs.Written.{modelIn}
+use Rattle.pages.specs.Page.{pageOf}
+use Rattle.pages.specs.Laws.Putting.{started}
+use Rattle.sections.proofs.Verdicts.{Verdicts, some-property, place-fits, few-alone, next-put, all-put}
 use Rattle.sections.proofs.verdict.verdict_lines.Statement.{statement}
 use Rattle.sections.proofs.verdict.verdict_lines.Tie as tie
 
--- where the full set is known, from behind the call
-abbrev at-full : tie.After-judge → tie.After-full
-at-full p = p .before .before .before
+abbrev Inv-loop : tie.InvT-loop
+Inv-loop text m page₀ last q₀ j₀ page q j = Verdicts (modelIn text) (pageOf q₀ page₀) (pageOf q page) j
+
+abbrev μ-loop : tie.MeasureT-loop
+μ-loop text m page₀ last q₀ j₀ page q j = suc last - j
+
+-- the loop, from behind a verdict
+abbrev in-loop : tie.After-slice-known2 Inv-loop μ-loop → tie.In-loop Inv-loop μ-loop
+in-loop p = p .before .before .before .before .before
 
 -- the beginning
-abbrev start : tie.After-judge → tie.Start
-start p = at-full p .before .before .before
-
--- behind the call, from where the trace's length is known
-abbrev asked : tie.After-answer2 → tie.After-judge
-asked p = p .before .before .before
-
--- where the trace's length is known, from behind the verdict's line
-abbrev broken : tie.After-put2 → tie.After-answer2
-broken p = p .before .before .before .before
+abbrev start : tie.At-loop Inv-loop μ-loop → tie.Start Inv-loop μ-loop
+start p = p .before .before .before .before
 
 pub verdict-lines-spec : {M : Type 1} → statement M
-unfolding line
 verdict-lines-spec =
     tie.close
     (tie.spec
-    (λ c κs. rules-le (c .before .before .pre))
-    (λ c. search needs)
-    (λ c. search needs)
-    (λ c κs. search needs)
-    (λ c. search needs)
-    (λ c. search needs)
-    (λ c. search needs)
-    (λ c κs. search needs)
-    (λ c. search needs)
-    (λ c. search needs)
-    (λ c κs. search needs)
+    Inv-loop
+    μ-loop
+    (λ c. some-property _ _ (c .before .before .before .pre))
+    (λ c. started _ _ _)
+    (λ c κs. place-fits _ _ (start (c .before) .pre) _ (omega (arith, c .loop-test .taken)))
+    (λ c κs. few-alone _ _ (start (c .before .before .before) .pre) _ _ (c .before .by-property .ensures))
+    (λ c. let l = in-loop c in omega (arith, place-fits _ _ (start (l .before) .pre) _ (l .loop-test .taken)))
+    (λ c. omega (arith, in-loop c .loop-test .taken))
     (λ c.
-    let b = broken (c .before .before) in
-    let j = asked b in
-    trace-fits _ _ (start j .pre) _ (at-full j .full .ensures) _ (length-replicate {A = ℕ} 128 0) _ _ (j .judge .ensures) _ (b .answer2 .given .1))
-    (λ c.
-    let b = broken (c .before .before .before) in
-    let j = asked b in
-    trace-length _ _ (start j .pre) _ (at-full j .full .ensures) _ (length-replicate {A = ℕ} 128 0) _ _ (j .judge .ensures) _ (b .answer2 .given .1))
-    (λ c κs. search needs)
-    (λ c.
-    let j = c .before .before .before .before in
-    absurd (accepted-call _ _ (start j .pre) _ (at-full j .full .ensures) _ (length-replicate {A = ℕ} 128 0) _ _ (j .judge .ensures) _ _ (c .before .answer .given .1)))
-    (λ c. search needs)
-    (λ c.
-    let t = c .before .before .before .before .before in
-    let j = t .before .before .before in
-    put-as _ _ _ _ (c .before .before .put .ensures)
-    (verdict-held _ _ (start j .pre) _ (at-full j .full .ensures) _ (length-replicate {A = ℕ} 128 0) _ _ (j .judge .ensures) (t .enum-told .given .1)))
-    (λ c. search needs)
-    (λ c.
-    let p = c .before .before .before .before .before .before .before in
-    let b = broken p in
-    let j = asked b in
-    put-as _ _ _ _ (both-put _ _ _ _ _ (p .put2 .ensures) (c .before .before .state-lines .ensures))
-    (verdict-broken _ _ (start j .pre) _ (at-full j .full .ensures) _ (length-replicate {A = ℕ} 128 0) _ _ (j .judge .ensures) _ (b .answer2 .given .1))))
+    let l = in-loop c in
+    next-put _ _ (start (l .before) .pre) _ _ _ (l .before .loop .inv) (l .loop-test .taken) _ (c .before .before .before .before .by-property .ensures) _
+    (c .before .before .verdict-of .ensures))
+    (λ c. c .before .loop .inv .size)
+    (λ c. all-put _ _ (start (c .before) .pre) _ _ _ (c .before .loop .inv) (c .loop-test .left)))

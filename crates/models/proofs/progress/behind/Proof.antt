@@ -1,10 +1,10 @@
--- `models::model::behind` meets its contract: the struct is the one that `behindLine` says, and the line's end is within the text.
+-- `models::progress::behind` meets its contract: the struct is the one that `behindLine` says, and the line's end is within the text.
 -- Assumes nothing.
 use mathlib.Core.Path.{refl}
 use native.Mathlib.Omega.{arith}
 use Rattle.models.specs.Reading.{behindLine}
-use Rattle.models.proofs.model.behind.Statement.{statement}
-use Rattle.models.proofs.model.behind.Tie as tie
+use Rattle.models.proofs.progress.behind.Statement.{statement}
+use Rattle.models.proofs.progress.behind.Tie as tie
 
 pub behind-spec : {M : Type 1} → statement M
 unfolding behindLine

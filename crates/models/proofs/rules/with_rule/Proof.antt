@@ -1,10 +1,10 @@
--- `models::model::with_rule` meets its contract: the struct is the one that `withRule` says.
+-- `models::rules::with_rule` meets its contract: the struct is the one that `withRule` says.
 -- Assumes nothing.
 use mathlib.Core.Path.{refl}
 use borrow.Author.Needs.{needs}
 use Rattle.models.specs.Reading.{withRule}
-use Rattle.models.proofs.model.with_rule.Statement.{statement}
-use Rattle.models.proofs.model.with_rule.Tie as tie
+use Rattle.models.proofs.rules.with_rule.Statement.{statement}
+use Rattle.models.proofs.rules.with_rule.Tie as tie
 
 pub with-rule-spec : {M : Type 1} → statement M
 unfolding withRule

@@ -1,18 +1,18 @@
--- `models::model::rule_lines` meets its contract. The loop's invariant: after i turns the state is `rulesRead` of i lines.
+-- `models::rules::rule_lines` meets its contract. The loop's invariant: after i turns the state is `rulesRead` of i lines.
 -- Assumes nothing.
 use Prim.Native.Nat.{_-_, _≤_}
 use mathlib.Core.Path.{_≡_, refl, sym, ap, _∙_, subst}
 use native.Mathlib.Omega.{arith}
 use native.Mathlib.Numerals.{add-one}
-use Rattle.models.specs.declared.model.Rules.{Rules}
+use Rattle.models.specs.declared.progress.Progress.{Progress}
 use Rattle.models.specs.Places.{Placed}
 use Rattle.models.specs.Reading.{nextRule, rulesRead}
 use Rattle.models.specs.Laws.Ranges.{rules-placed}
-use Rattle.models.proofs.model.rule_lines.Statement.{statement}
-use Rattle.models.proofs.model.rule_lines.Tie as tie
+use Rattle.models.proofs.rules.rule_lines.Statement.{statement}
+use Rattle.models.proofs.rules.rule_lines.Tie as tie
 
 abbrev Inv-loop : tie.InvT-loop
-Inv-loop text vars rules r₀ i₀ r i = (i ≤ rules) × (r ≡ rulesRead text vars (r₀ .place) i)
+Inv-loop text vars rules r₀ i₀ r i = (i ≤ rules) × (r ≡ rulesRead text vars r₀ i)
 
 abbrev μ-loop : tie.MeasureT-loop
 μ-loop text vars rules r₀ i₀ r i = rules - i
@@ -30,16 +30,16 @@ rule-lines-spec =
     let s = c .before .before .before in
     let a = s .args in
     record {
-      rule = omega (arith, s .pre .few);
-      place = subst (λ (r : Rules). Placed (a .text .now) (r .place)) (sym (l .inv .1)) (rules-placed (a .text .now) (a .vars) (a .place) (s .pre .place) (l .i));
+      part = omega (arith, s .pre .few);
+      place = subst (λ (r : Progress). Placed (a .text .now) (r .place)) (sym (l .inv .1)) (rules-placed (a .text .now) (a .vars) (a .before) (s .pre .place) (l .i));
     })
     (λ c. omega arith)
     (λ c. omega arith)
     (λ c.
     let a = c .before .before .before .before .args in
     let l = c .before .before .loop in
-    (omega arith, c .next-rule .ensures ∙ ap (nextRule (a .text .now) (a .vars) (l .i)) (l .inv .1) ∙ ap (rulesRead (a .text .now) (a .vars) (a .place)) (sym (add-one (l .i)))))
+    (omega arith, c .next-rule .ensures ∙ ap (nextRule (a .text .now) (a .vars) (l .i)) (l .inv .1) ∙ ap (rulesRead (a .text .now) (a .vars) (a .before)) (sym (add-one (l .i)))))
     (λ c.
     let a = c .before .before .before .args in
     let end : c .before .loop .i ≡ a .rules = omega arith in
-    c .before .loop .inv .1 ∙ ap (rulesRead (a .text .now) (a .vars) (a .place)) end))
+    c .before .loop .inv .1 ∙ ap (rulesRead (a .text .now) (a .vars) (a .before)) end))

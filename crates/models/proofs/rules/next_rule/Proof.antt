@@ -1,4 +1,4 @@
--- `models::model::next_rule` meets its contract: what the line gives is put at rule i, as `ruled` says, and the line ends within the text.
+-- `models::rules::next_rule` meets its contract: what the line gives is put at rule i, as `ruled` says, and the line ends within the text.
 -- Assumes nothing.
 use Prim.Native.Nat.{ℕ}
 use mathlib.Core.Path.{_≡_, sym, ap, _∙_}
@@ -11,14 +11,14 @@ use Rattle.lines.specs.declared.names.RuleLine.the-variants.{RuleRead}
 use Rattle.lines.specs.declared.names.RuleParts.{RuleParts}
 use Rattle.lines.specs.Lines.{ruleLine, isTaken}
 use Rattle.lines.specs.Laws.Heard.{rule-bytes, rule-heard}
-use Rattle.models.specs.declared.model.Rules.{Rules}
+use Rattle.models.specs.declared.progress.Progress.{Progress}
 use Rattle.models.specs.Places.{Placed, Passes}
-use Rattle.models.specs.Reading.{ruled, nextRule, withRule}
+use Rattle.models.specs.Reading.{withFault, ruled, nextRule, withRule}
 use Rattle.models.specs.Laws.Ranges.{passes}
-use Rattle.models.proofs.model.next_rule.Statement.{statement}
-use Rattle.models.proofs.model.next_rule.Tie as tie
+use Rattle.models.proofs.rules.next_rule.Statement.{statement}
+use Rattle.models.proofs.rules.next_rule.Tie as tie
 
-module _ (text : List ℕ) (vars i : ℕ) (r : Rules) {l : RuleLine} (said : l ≡ ruleLine vars (isTaken text (r .names) (r .steps) i) (r .place .at) (drop (r .place .at) text)) where
+module _ (text : List ℕ) (vars i : ℕ) (r : Progress) {l : RuleLine} (said : l ≡ ruleLine vars (isTaken text (r .names) (r .steps) i) (r .place .at) (drop (r .place .at) text)) where
   -- a line that is read ends within the text
   line-passes : {parts : RuleParts} {bytes : ℕ} → Placed text (r .place) → l ≡ RuleRead parts bytes → Passes text (r .place) bytes
   line-passes h told = passes h (rule-bytes (rule-heard vars (isTaken text (r .names) (r .steps) i) (r .place .at) (drop (r .place .at) text)) (sym said ∙ told))
@@ -37,23 +37,25 @@ module _ (p : tie.After-rule-line) where
   start = fresh .before .before .before
 
 pub next-rule-spec : {M : Type 1} → statement M
-unfolding nextRule ruled withRule
+unfolding nextRule ruled withFault withRule
 next-rule-spec =
     tie.close
     (tie.spec
     (λ c. rw (ne-eqb _ _ (c .if1 .taken)))
     (λ c κs. search needs)
     (λ c. search needs)
+    (λ c κs. search needs)
     (λ c. search needs)
     (λ c κs.
     let p = c .before .before .before in
     let a = start p .args in
     line-passes (a .text .now) (a .vars) (a .i) (a .r) (p .rule-line .ensures) (start p .pre .place) (c .before .l2 .given .1))
-    (λ c κs. start (c .before .before .before .before) .pre .rule)
+    (λ c κs. start (c .before .before .before .before) .pre .part)
     (λ c.
-    let p = c .before .before .before in
+    let p = c .before .before .before .before in
     let a = start p .args in
-    applied (a .text .now) (a .vars) (a .i) (a .r) (sym (c .before .l .given .1) ∙ p .rule-line .ensures) (fresh p .if1 .left))
+    c .with-fault .ensures
+    ∙ applied (a .text .now) (a .vars) (a .i) (a .r) (sym (c .before .before .l .given .1) ∙ p .rule-line .ensures) (fresh p .if1 .left))
     (λ c.
     let k = c .before .before .before in
     let p = k .before .before in
