@@ -1,3 +1,3 @@
--- The root of this crate's definitions: how large a model may be, where its sets are marked, and what listing sets answers and writes.
+-- The root of this crate's definitions: where the sets of a model are marked, and what listing sets answers and writes.
 pub mod Finding
 pub mod Lists

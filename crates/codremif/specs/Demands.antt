@@ -1,5 +1,5 @@
 -- The demands of the mission, as theorems about what exactly the calls answer and write. Nothing is assumed.
--- To believe them, read these files below crates/ in this order (lines without imports and blank lines, 1,433 in all). What is proved of their
+-- To believe them, read these files below crates/ in this order (lines without imports and blank lines, 1,434 in all). What is proved of their
 -- definitions stands in `Laws` and need not be read, and neither need the functions that compute (the reading of a text, the verdict, the lists):
 -- the theorems say what they give.
 --   a number as a set of rules or of letters           sets/specs/Bit                8
@@ -8,7 +8,7 @@
 --   bytes, and those of a name                         lines/specs/Bytes            41
 --   a legal rule and its line                          lines/specs/Written          40
 --   a model, when it is legal, its written form        models/specs/Written         74
---   how many property lines a text has                 models/specs/Properties      15
+--   how many property lines a text has                 models/specs/Properties      16
 --   accepted texts are exactly these                   models/specs/Accepted        34
 --   when a text is refused: the numbers 1 to 9         models/specs/Refusals       106
 --   the reading answers with the first that fits       models/specs/Refused         29

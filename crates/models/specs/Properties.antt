@@ -12,13 +12,14 @@ unfoldable pub afterLine : List ℕ → List ℕ
 afterLine [] = []
 afterLine (b ∷ s) = cond (eqb b 10) s (afterLine s)
 
--- how many lines at the start of s start with `prop=`, of the first so many
+-- how many of the first so many lines of s start with `prop=`, up to the first that does not
 unfoldable pub leading : ℕ → List ℕ → ℕ
 unfolding same afterLine
 leading zero s = 0
 leading (suc most) s = cond (startsWith propKey s) (suc (leading most (afterLine s))) 0
 
--- how many property lines s begins with, where one is due: the first is one whatever it holds, and of the next three those that start with `prop=`
+-- how many property lines s begins with, where one is due: the first is one whatever it holds, and so are those that follow it and start with `prop=`,
+-- three at most
 unfoldable pub propertyCount : List ℕ → ℕ
 unfolding leading
 propertyCount s = suc (leading 3 (afterLine s))

@@ -37,6 +37,10 @@ noneRead p = record { number = 0; place = p; props = replicate 4 0; names = repl
 unfoldable pub withFault : Progress → ℕ → Progress
 withFault r number = record { number = number; place = r .place; props = r .props; names = r .names; steps = r .steps }
 
+-- what the next line gives, unless an earlier one was refused
+unfoldable pub unlessRefused : Progress → Progress → Progress
+unlessRefused r next = cond (eqb (r .number) 0) next r
+
 -- ---- the property lines
 
 -- with property j, which stands at this place, before a line at the place p
@@ -49,10 +53,10 @@ unfolding withFault withProperty behindLine
 propertied j r (Fault number) = withFault r number
 propertied j r (Read v bytes) = withProperty r j (r .place .at + v) (behindLine (r .place) bytes)
 
--- the line of property j, unless an earlier one was refused
+-- the line of property j
 unfoldable pub nextProperty : List ℕ → ℕ → ℕ → Progress → Progress
-unfolding propertied stateLine
-nextProperty text n j r = cond (eqb (r .number) 0) (propertied j r (stateLine propKey n (drop (r .place .at) text))) r
+unfolding unlessRefused propertied stateLine
+nextProperty text n j r = unlessRefused r (propertied j r (stateLine propKey n (drop (r .place .at) text)))
 
 -- the first so many property lines, from a place on
 unfoldable pub propertiesRead : List ℕ → ℕ → LineStart → ℕ → Progress
@@ -72,12 +76,12 @@ unfolding withFault withRule behindLine
 ruled i r (RuleFault number) = withFault r number
 ruled i r (RuleRead parts bytes) = withRule r i parts (behindLine (r .place) bytes)
 
--- the line of rule i, unless an earlier line was refused
+-- the line of rule i
 unfoldable pub nextRule : List ℕ → ℕ → ℕ → Progress → Progress
-unfolding ruled ruleLine isTaken
+unfolding unlessRefused ruled ruleLine isTaken
 nextRule text n i r =
     let at = r .place .at in
-    cond (eqb (r .number) 0) (ruled i r (ruleLine n (isTaken text (r .names) (r .steps) i) at (drop at text))) r
+    unlessRefused r (ruled i r (ruleLine n (isTaken text (r .names) (r .steps) i) at (drop at text)))
 
 -- the first so many rule lines, behind the property lines
 unfoldable pub rulesRead : List ℕ → ℕ → Progress → ℕ → Progress

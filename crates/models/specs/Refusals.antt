@@ -45,7 +45,7 @@ unfoldable pub firstRuleLine : List ℕ → ℕ
 unfolding afterLines propertyCount
 firstRuleLine text = 4 + propertyCount (afterLines 3 text)
 
--- Line 3 holds the expression `init`, and each line from there to the first rule line a property.
+-- Line 3 holds the expression `init`, and each line between it and the first rule line a property.
 pub data StateLine (text : List ℕ) : ℕ → List ℕ → Type 0 where
   init-line : StateLine text 3 initKey
   prop-line : {k : ℕ} → 4 ≤ k → k < firstRuleLine text → StateLine text k propKey

@@ -25,7 +25,7 @@ use Rattle.systems.specs.Judged.{judged}
 use Rattle.systems.specs.Laws.Holds.{breach-broken}
 use Rattle.systems.specs.Properties.{FirstOfTraces, JointlyJudged}
 use Rattle.semantics.specs.Meaning.{systemOf, judge}
-use Rattle.semantics.specs.Laws.Properties.{properties-judged}
+use Rattle.semantics.specs.Laws.Properties.{judged-jointly}
 use Rattle.sorting.specs.declared.which.WhichList.the-variants.{Cores}
 use Rattle.sorting.specs.Which.{listed}
 use Rattle.calls.specs.declared.answers.JudgeAnswer.{JudgeAnswer}
@@ -131,7 +131,7 @@ module _ (text : List ℕ) (model : textOutcome text ≡ Accepted) where
   -- The sets are judged jointly.
   jointly : (S : ℕ) → JointlyJudged (systemIn text S) (propertiesIn text) (λ j. systemOf (byProperty j (modelIn text)) S)
   unfolding propertiesIn systemIn
-  jointly S = properties-judged (modelIn text) S
+  jointly S = judged-jointly (modelIn text) S
 
   held-by : (j : ℕ) → j < propertiesIn text → (S : ℕ) → judgeIn (textBy j text) S ≡ holds (systemOf (byProperty j (modelIn text)) S)
   unfolding textBy judge

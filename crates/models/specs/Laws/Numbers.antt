@@ -117,11 +117,11 @@ count-given text k key most c h = go (isLine key s) refl (countIn most (valueOf 
     go false l (suc n) q b = absurd (omega arith)
 
 -- one of the first i rule lines has this name
-abbrev Among : List ℕ → List ℕ → ℕ → Type 0
-Among text name i = (j : ℕ) × (j < i) × ((e : List ℕ) × HasName text (firstRuleLine text + j) name e)
+abbrev NamedAmong : List ℕ → List ℕ → ℕ → Type 0
+NamedAmong text name i = (j : ℕ) × (j < i) × ((e : List ℕ) × HasName text (firstRuleLine text + j) name e)
 
 module _ (text : List ℕ) (r : ℕ) (isR : IsR text r) (name : List ℕ) where
-  name-among : (i : ℕ) → i ≤ r → nameAmong text (firstRuleLine text) i name ≡ true → Among text name i
+  name-among : (i : ℕ) → i ≤ r → nameAmong text (firstRuleLine text) i name ≡ true → NamedAmong text name i
   unfolding nameAmong
   name-among zero b t = absurd (false≢true t)
   name-among (suc j) b t = go (nameAmong text (firstRuleLine text) j name) (name-among j (omega arith)) t
@@ -135,7 +135,7 @@ module _ (text : List ℕ) (r : ℕ) (isR : IsR text r) (name : List ℕ) where
       last : Bool
       last = isLine ruleKey s && (isNamed (valueOf ruleKey s) && same (nameFound s) name)
 
-      go : (b : Bool) → (b ≡ true → Among text name j) → (b || last) ≡ true → Among text name (suc j)
+      go : (b : Bool) → (b ≡ true → NamedAmong text name j) → (b || last) ≡ true → NamedAmong text name (suc j)
       go true f t = let w = f refl in (w .0, omega (arith, w .1), w .2)
       go false f t =
           let l = and-eq-true-iff (isLine ruleKey s) (isNamed (valueOf ruleKey s) && same (nameFound s) name) .0 t in

@@ -30,7 +30,7 @@ use Rattle.models.specs.Reading.{noneRead, propertied, nextProperty, pro
 use Rattle.models.specs.Written.{propertyAt, writtenProperty}
 use Rattle.models.specs.Laws.Lines.{line-seam}
 use Rattle.models.specs.Laws.Lists.{at-more, flatMap-more, flatMap-at, behind, one-behind}
-use Rattle.models.specs.Laws.Rules.{Room, unnumbered}
+use Rattle.models.specs.Laws.Rules.{PlaceArrays, unnumbered}
 
 -- ---- how many there are
 
@@ -85,18 +85,18 @@ count-there n h (e ∷ es) a b l rest f =
 
 -- ---- the arrays
 
-room-line : (j : ℕ) (r : Progress) {s : List ℕ} {most : ℕ} {l : Line} → Heard s most l → Room r → Room (propertied j r l)
+room-line : (j : ℕ) (r : Progress) {s : List ℕ} {most : ℕ} {l : Line} → Heard s most l → PlaceArrays r → PlaceArrays (propertied j r l)
 unfolding propertied
 room-line j r (fault number w) h = record { props = h .props; names = h .names; steps = h .steps }
 room-line j r (said w) h = record { props = length-set (r .props) j _ ∙ h .props; names = h .names; steps = h .steps }
 
-pub properties-room : (text : List ℕ) (n : ℕ) (p : LineStart) (j : ℕ) → Room (propertiesRead text n p j)
+pub properties-room : (text : List ℕ) (n : ℕ) (p : LineStart) (j : ℕ) → PlaceArrays (propertiesRead text n p j)
 unfolding propertiesRead nextProperty noneRead
 properties-room text n p zero =
     record { props = length-replicate {A = ℕ} 4 0; names = length-replicate {A = ℕ} 16 0; steps = length-replicate {A = ℕ} 16 0 }
 properties-room text n p (suc j) =
     let r = propertiesRead text n p j in
-    by-test {A = Progress} Room (eqb (r .number) 0)
+    by-test {A = Progress} PlaceArrays (eqb (r .number) 0)
     (λ _. room-line j r (state-heard propKey n (drop (r .place .at) text)) (properties-room text n p j))
     (λ _. properties-room text n p j)
 
@@ -125,7 +125,7 @@ stated-none : (text : List ℕ) (p : LineStart) → Stated text p [] (noneRead p
 unfolding noneRead flatMap
 stated-none text p = record { number = refl; place = omega arith; lines = refl; located = λ j h. absurd (omega arith) }
 
-stated-more : (text : List ℕ) (p : LineStart) (es : List Expr) (r : Progress) (e : Expr) (rest : List ℕ) → Stated text p es r → Room r → length es < 4
+stated-more : (text : List ℕ) (p : LineStart) (es : List Expr) (r : Progress) (e : Expr) (rest : List ℕ) → Stated text p es r → PlaceArrays r → length es < 4
     → drop (r .place .at) text ≡ writtenProperty e ++ rest
     → Stated text p (es ++ e ∷ []) (propertied (length es) r (Read (length propKey) (length (writtenProperty e))))
 unfolding propertied writtenProperty
@@ -146,7 +146,7 @@ stated-more text p es r e rest u room h q =
     expression = behind text (r .place .at) propKey (written e ++ 10 ∷ rest) (q ∙ line-append propKey (written e) rest)
 
 -- one more property line is read
-stated-next : (text : List ℕ) (n : ℕ) (p : LineStart) (es : List Expr) (r : Progress) (e : Expr) (rest : List ℕ) → n ≤ 7 → Stated text p es r → Room r → length es < 4
+stated-next : (text : List ℕ) (n : ℕ) (p : LineStart) (es : List Expr) (r : Progress) (e : Expr) (rest : List ℕ) → n ≤ 7 → Stated text p es r → PlaceArrays r → length es < 4
     → LegalExpr n false e → drop (r .place .at) text ≡ writtenProperty e ++ rest → Stated text p (es ++ e ∷ []) (nextProperty text n (length es) r)
 unfolding nextProperty writtenProperty
 stated-next text n p es r e rest b u room h l q =

@@ -3,13 +3,12 @@
 use Prim.Native.Nat.{ℕ, zero, suc, _+_, _-_, _≤_, _<_}
 use mathlib.Core.Path.{_≡_, refl, sym, ap, ap₂, _∙_, subst}
 use mathlib.Core.Logic.{_≢_, inl, inr, ⊎-elim}
-use mathlib.Core.Bool.{Bool, true, false, cond, _&&_, _||_, false≢true}
+use mathlib.Core.Bool.{Bool, true, false, _&&_, _||_, false≢true}
 use mathlib.Core.List.{List, [], _∷_, _++_, append-assoc, flatMap}
 use native.Mathlib.Omega.{arith}
 use native.Mathlib.Decide.{decLt}
 use native.Mathlib.Numerals.{add-one}
 use borrow.Author.Tests.{eq-eqb, ne-eqb}
-use lib.Dec.{eqb}
 use lib.ListN.{length, drop, drop-of-length-le, length-drop}
 use lib.Seq.{drop-cons, drop-drop}
 use Rattle.exprs.specs.Expr.{written}
@@ -28,13 +27,13 @@ use Rattle.models.specs.declared.model.Outcome.the-variants.{Accepted, R
 use Rattle.models.specs.declared.model.Reading.{Reading}
 use Rattle.models.specs.declared.progress.Progress.{Progress}
 use Rattle.models.specs.Properties.{afterLine, propertyCount}
-use Rattle.models.specs.Reading.{textStart, behindLine, noneRead, propertied, nextProperty, propertiesRead, ruled, nextRule, rulesRead, refusedReading, following, finished, readModel}
+use Rattle.models.specs.Reading.{textStart, behindLine, noneRead, unlessRefused, propertied, nextProperty, propertiesRead, ruled, nextRule, rulesRead, refusedReading, following, finished, readModel}
 use Rattle.models.specs.Written.{ruleAt}
 use Rattle.models.specs.Refusals.{afterLines, vars-line, rules-line, firstRuleLine, init-line, prop-line, IsN, IsR, HasName, FitsAt, bytes-follow, First}
 use Rattle.models.specs.Laws.Lines.{lines-more, lines-add, line-dropped, line-seam}
 use Rattle.models.specs.Laws.Finished.{by-last}
 use Rattle.models.specs.Laws.Ranges.{place₂, place₃, place₄}
-use Rattle.models.specs.Laws.Rules.{taken-back, Room, Ruled, rules-back}
+use Rattle.models.specs.Laws.Rules.{taken-back, PlaceArrays, Ruled, rules-back}
 use Rattle.models.specs.Laws.Properties.{properties-room}
 use Rattle.models.specs.Laws.Grounds.{in-line-unbroken}
 use Rattle.models.specs.Laws.Fitting.{one-name, fits-least, fits-behind, LineJudged, line-refused, line-passed, count-judged, state-judged, RuleJudged, rule-refused, rule-passed, TellsNames, rule-judged}
@@ -156,7 +155,8 @@ data PartsJudged (text : List ℕ) (k : ℕ) (r : Progress) : Type 0 where
 -- one line more, unless an earlier one was refused
 judged-more : {text : List ℕ} {k : ℕ} (k′ : ℕ) (r next : Progress) → PartsJudged text k r
     → (r .number ≡ 0 → Stands text (r .place) → r .place .line ≡ k → Clear text (r .place .line) → PartsJudged text k′ next)
-    → PartsJudged text k′ (cond (eqb (r .number) 0) next r)
+    → PartsJudged text k′ (unlessRefused r next)
+unfolding unlessRefused
 judged-more {text} k′ r next (parts-passed z st l c) f = rw (eq-eqb (r .number) 0 z) (f z st l (subst (Clear text) (sym l) c))
 judged-more k′ r next (parts-refused z g) f = rw (ne-eqb (r .number) 0 z) (parts-refused z g)
 
@@ -194,7 +194,7 @@ unfolding rulesRead nextRule
 stays-refused text n r z zero = refl
 stays-refused text n r z (suc i) = ap (nextRule text n i) (stays-refused text n r z i) ∙ rw (ne-eqb (r .number) 0 z)
 
-module _ (text : List ℕ) (n R : ℕ) (isN : IsN text n) (isR : IsR text R) (before : Progress) (room : Room before) where
+module _ (text : List ℕ) (n R : ℕ) (isN : IsN text n) (isR : IsR text R) (before : Progress) (room : PlaceArrays before) where
   few : n ≤ 7
   few = isN .range .atMost
 

@@ -3,7 +3,7 @@
 use Prim.Native.Nat.{ℕ, zero, suc, _+_, _-_, _≤_, _<_}
 use mathlib.Core.Path.{_≡_, refl, sym, ap, ap₂, _∙_, subst, subst₂}
 use mathlib.Core.Logic.{_≢_}
-use mathlib.Core.Bool.{Bool, false, cond, _||_, false≢true}
+use mathlib.Core.Bool.{Bool, false, _||_, false≢true}
 use mathlib.Mathlib.Data.Bool.Basic.{or-eq-false-eq-eq-false-and-eq-false}
 use mathlib.Core.List.{List, [], _∷_, _++_, append-assoc, flatMap}
 use native.Mathlib.Omega.{arith}
@@ -24,7 +24,7 @@ use Rattle.slices.specs.Laws.Same.{same-true, same-false}
 use Rattle.lines.specs.Laws.Heard.{RuleHeard, rule-fault, rule-said, rule-heard}
 use Rattle.lines.specs.Laws.Lines.{rule-reads, line-append}
 use Rattle.models.specs.declared.progress.Progress.{Progress}
-use Rattle.models.specs.Reading.{ruled, nextRule, rulesRead}
+use Rattle.models.specs.Reading.{unlessRefused, ruled, nextRule, rulesRead}
 use Rattle.models.specs.Written.{ruleAt}
 use Rattle.models.specs.Laws.Lists.{at-more, flatMap-more, flatMap-at, behind, one-behind}
 
@@ -107,7 +107,7 @@ module _ (text names steps : List ℕ) (i name step : ℕ) where
       }
 
 -- The arrays have an entry for each part that there can be.
-pub record Room (r : Progress) : Type 0 where
+pub record PlaceArrays (r : Progress) : Type 0 where
   pub props : length (r .props) ≡ 4
   pub names : length (r .names) ≡ 16
   pub steps : length (r .steps) ≡ 16
@@ -117,11 +117,11 @@ pub record Upto (text : List ℕ) (before : Progress) (rs : List Rule) (r : Prog
   pub number : r .number ≡ 0
   pub place : r .place .at ≡ before .place .at + length (flatMap writtenRule rs)
   pub lines : drop (before .place .at) text ≡ flatMap writtenRule rs ++ drop (r .place .at) text
-  pub room : Room r
+  pub room : PlaceArrays r
   pub props : r .props ≡ before .props
   pub located : (j : ℕ) → j < length rs → Located text (r .names) (r .steps) j (ruleAt rs j)
 
-upto-none : (text : List ℕ) (before : Progress) → Room before → before .number ≡ 0 → Upto text before [] before
+upto-none : (text : List ℕ) (before : Progress) → PlaceArrays before → before .number ≡ 0 → Upto text before [] before
 unfolding flatMap
 upto-none text before room z = record {
   number = z;
@@ -179,14 +179,15 @@ unruled i r (rule-fault number w) q = absurd (omega (arith, w .atLeast))
 unruled i r (rule-said {parts} {bytes} w) q = (parts, bytes, refl)
 
 -- where what a line gives has no number, the line follows others without
-pub unnumbered : (r given : Progress) → cond (eqb (r .number) 0) given r .number ≡ 0 → (r .number ≡ 0) × (given .number ≡ 0)
+pub unnumbered : (r given : Progress) → unlessRefused r given .number ≡ 0 → (r .number ≡ 0) × (given .number ≡ 0)
+unfolding unlessRefused
 unnumbered r given =
     by-test {A = Progress} (λ x. x .number ≡ 0 → (r .number ≡ 0) × (given .number ≡ 0)) (eqb (r .number) 0)
     (λ e q. (eqb-true (r .number) 0 e, q))
     (λ e q. absurd (eqb-false (r .number) 0 e q))
 
 -- rule lines that no number refuses are written forms of legal rules
-pub rules-back : (text : List ℕ) (n : ℕ) (before : Progress) → Room before → n ≤ 7 → (i : ℕ) → i ≤ 16 → rulesRead text n before i .number ≡ 0
+pub rules-back : (text : List ℕ) (n : ℕ) (before : Progress) → PlaceArrays before → n ≤ 7 → (i : ℕ) → i ≤ 16 → rulesRead text n before i .number ≡ 0
     → Ruled text n before i (rulesRead text n before i)
 unfolding rulesRead nextRule
 rules-back text n before room b zero h q = record {
@@ -216,7 +217,7 @@ rules-back text n before room b (suc i) h q =
     }
 
 -- the first i of the rules that stand in the text, one after the other, are found
-some-there : (text : List ℕ) (n : ℕ) (before : Progress) (rules : List Rule) → Room before → before .number ≡ 0 → n ≤ 7 → length rules ≤ 16 → LegalRules n rules
+some-there : (text : List ℕ) (n : ℕ) (before : Progress) (rules : List Rule) → PlaceArrays before → before .number ≡ 0 → n ≤ 7 → length rules ≤ 16 → LegalRules n rules
     → drop (before .place .at) text ≡ flatMap writtenRule rules → (i : ℕ) → i ≤ length rules → Upto text before (take i rules) (rulesRead text n before i)
 unfolding rulesRead
 some-there text n before rules room z b c l q zero h = upto-none text before room z
@@ -233,7 +234,7 @@ some-there text n before rules room z b c l q (suc i) h =
     (ap (λ m. drop m text) (found .place) ∙ behind text (before .place .at) (flatMap writtenRule front) (writtenRule rule ++ rest) (q ∙ flatMap-at writtenRule rules i _ h)))
 
 -- the rules that stand in the text, one after the other, are found
-pub rules-there : (text : List ℕ) (n : ℕ) (before : Progress) (rules : List Rule) → Room before → before .number ≡ 0 → n ≤ 7 → length rules ≤ 16 → LegalRules n rules
+pub rules-there : (text : List ℕ) (n : ℕ) (before : Progress) (rules : List Rule) → PlaceArrays before → before .number ≡ 0 → n ≤ 7 → length rules ≤ 16 → LegalRules n rules
     → drop (before .place .at) text ≡ flatMap writtenRule rules → Upto text before rules (rulesRead text n before (length rules))
 rules-there text n before rules room z b c l q =
     subst (λ x. Upto text before x (rulesRead text n before (length rules))) (take-length rules) (some-there text n before rules room z b c l q (length rules) (omega arith))

@@ -36,5 +36,5 @@ module _ (M : Described) where
   jointly S = record { size = λ j _. refl; start = λ j _ s. refl; step = λ j _ s t. refl; bad = bad-iff }
 
   -- So are its verdict and its trace.
-  pub properties-judged : (S : ℕ) → JointlyJudged (systemOf M S) (length (M .props)) (λ j. systemOf (byProperty j M) S)
-  properties-judged S = jointlyJudged (jointly S)
+  pub judged-jointly : (S : ℕ) → JointlyJudged (systemOf M S) (length (M .props)) (λ j. systemOf (byProperty j M) S)
+  judged-jointly S = jointlyJudged (jointly S)

@@ -37,7 +37,7 @@ allPass-iff f (x ∷ l) = (
 )
 
 -- A set holds by all exactly when it holds by each, of any list and of one that is given entry by entry.
-pub joint-iff : (hs : List (ℕ → Bool)) (S : ℕ) → (joint hs S ≡ true) ↔ Each (λ h. h S ≡ true) hs
+joint-iff : (hs : List (ℕ → Bool)) (S : ℕ) → (joint hs S ≡ true) ↔ Each (λ h. h S ≡ true) hs
 unfolding joint
 joint-iff hs S = allPass-iff (λ h. h S) hs
 
@@ -47,7 +47,7 @@ joint-tabulate n h S = Iff·trans (joint-iff (tabulate n h) S) (each-tabulate (�
 -- ---- the unions of one core from each
 
 module _ {R : ℕ} where
-  pub union-below : {hs : List (ℕ → Bool)} {U : ℕ} → UnionOfCores R hs U → U < 2 ^ R
+  union-below : {hs : List (ℕ → Bool)} {U : ℕ} → UnionOfCores R hs U → U < 2 ^ R
   union-below noJudgement = pow-pos R
   union-below (oneMore {C = C} {U = U} c u) = or-lt R C U (c .rules) (union-below u)
 
