@@ -28,7 +28,7 @@ fn stays_broken(masks: &[u16], t: Tables, unknown: &[u64], set: RuleSet, rule: u
     if !marks::table::is_marked(unknown, more) {
         return false;
     }
-    !systems::verdict::is_held(masks, t, more.0)
+    !verdicts::verdict::is_held(masks, t, more.0)
 }
 
 // A broken set above the seed to which no rule can be added so that it stays broken: they are added one by one.
@@ -61,7 +61,7 @@ fn settle(
     ensures { λ _. ⌜ Settled (t .rules) (judgeBy (now (masks .entry)) t) (seed .0)
         (now (unknown .entry)) (now (unknown .exit)) (now (cores .exit)) (now (cuts .exit)) ⌝ }
 {
-    if systems::verdict::is_held(masks, t, seed.0) {
+    if verdicts::verdict::is_held(masks, t, seed.0) {
         marks::table::clear_above(unknown, seed);
         marks::table::mark(cores, seed);
     } else {
@@ -108,7 +108,7 @@ fn needed(masks: &[u16], t: Tables, all: RuleSet) -> RuleSet
     while i < t.rules {
         let less = all.without(i);
         let fewer = must.without(i);
-        if systems::verdict::is_held(masks, t, less.0) {
+        if verdicts::verdict::is_held(masks, t, less.0) {
             must = fewer;
         }
         i += 1;
@@ -122,7 +122,7 @@ pub fn must_of(masks: &[u16], t: Tables) -> RuleSet
     ensures { λ r. ⌜ r .0 ≡ mustOf (t .rules) (judgeBy (now (masks .entry)) t) ⌝ }
 {
     let all = RuleSet::full(t.rules);
-    if systems::verdict::is_held(masks, t, all.0) {
+    if verdicts::verdict::is_held(masks, t, all.0) {
         needed(masks, t, all)
     } else {
         RuleSet::empty()

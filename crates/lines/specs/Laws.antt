@@ -4,4 +4,5 @@ pub mod Decimal
 pub mod Numbers
 pub mod Expressions
 pub mod Heard
+pub mod Ended
 pub mod Lines

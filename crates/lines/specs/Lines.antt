@@ -1,22 +1,19 @@
--- The lines of a model text, each read by itself: the first number of 1 to 8 that fits, in the document's order within a line, or what
--- the line says and how many bytes it has. From document 01, "The model text" and "When a call is turned away". Assumes nothing.
+-- The lines of a model text but for the rule lines, each read by itself: the first of the numbers 1, 2 and 5 to 8 that fits, in the document's order
+-- within a line, or what the line says and how many bytes it has. From document 01, "The model text" and "When a call is turned away". Assumes nothing.
 use Prim.Native.Nat.{ℕ, zero, suc, _+_, _-_}
-use mathlib.Core.Bool.{Bool, true, false, cond, _&&_, _||_}
+use mathlib.Core.Bool.{Bool, false, cond, _&&_}
 use mathlib.Core.List.{List}
 use mathlib.Core.Option.{Option, none, some}
 use lib.Dec.{eqb, leb, ltb}
-use lib.ListN.{length, getD, take, drop}
+use lib.ListN.{length, take, drop}
 use Rattle.exprs.specs.Expr.{Expr, size}
 use Rattle.exprs.specs.Reading.{readExpr}
 use Rattle.lines.specs.declared.classes.Class.{Class}
-use Rattle.lines.specs.declared.classes.Class.the-variants.{InLine, InName, InExpression, Allowed}
+use Rattle.lines.specs.declared.classes.Class.the-variants.{InLine, InExpression, Allowed}
 use Rattle.lines.specs.declared.line.Line.{Line}
 use Rattle.lines.specs.declared.line.Line.the-variants.{Fault, Read}
 use Rattle.lines.specs.declared.line.End.{End}
 use Rattle.lines.specs.declared.line.End.the-variants.{At, Missing}
-use Rattle.lines.specs.declared.names.RuleLine.{RuleLine}
-use Rattle.lines.specs.declared.names.RuleLine.the-variants.{RuleFault, RuleRead}
-use Rattle.lines.specs.declared.names.RuleParts.{RuleParts}
 use Rattle.lines.specs.Bytes.{bytes, prefix}
 use Rattle.slices.specs.Same.{same}
 use Rattle.lines.specs.Decimal.{decimal}
@@ -126,38 +123,3 @@ faultOf n capitals e =
 unfoldable pub stateLine : List ℕ → ℕ → List ℕ → Line
 unfolding isLine valueOf faultOf unlessFault says
 stateLine key n s = cond (isLine key s) (unlessFault Fault (faultOf n false (valueOf key s)) (says (length key) s)) (Fault 1)
-
--- ---- numbers 3 and 4: a name
-
--- the value begins with a proper name and `:`
-unfoldable pub isNamed : List ℕ → Bool
-unfolding prefix
-isNamed v = leb 1 (prefix InName v) && (leb (prefix InName v) 8 && eqb (getD v (prefix InName v) 0) 58)
-
--- the name of rule j, as the places where the names and the expressions of the earlier rules stand tell it
-unfoldable pub nameOf : List ℕ → List ℕ → List ℕ → ℕ → List ℕ
-nameOf text names steps j = take (getD steps j 0 - 1 - getD names j 0) (drop (getD names j 0) text)
-
--- one of the first i rules has this name
-unfoldable pub isTaken : List ℕ → List ℕ → List ℕ → ℕ → List ℕ → Bool
-unfolding nameOf same
-isTaken text names steps zero name = false
-isTaken text names steps (suc j) name = isTaken text names steps j name || same (nameOf text names steps j) name
-
--- where the parts of a rule stand whose line begins at `at` and whose name has k bytes: the name behind `rule=`, the expression behind `:`
-abbrev pub partsAt : ℕ → ℕ → RuleParts
-partsAt at k = record { name = at + length ruleKey; step = at + (length ruleKey + 1 + k) }
-
--- a rule line, where s is what the text has from `at` on and `taken` tells the names of the earlier rules: `rule=`, a name, `:` and an expression
-unfoldable pub ruleLine : ℕ → (List ℕ → Bool) → ℕ → List ℕ → RuleLine
-unfolding isLine valueOf isNamed prefix faultOf unlessFault lineLength
-ruleLine n taken at s =
-    let v = valueOf ruleKey s in
-    let k = prefix InName v in
-    cond (isLine ruleKey s)
-    (cond (isNamed v)
-    (cond (taken (take k v))
-    (RuleFault 4)
-    (unlessFault RuleFault (faultOf n true (drop (k + 1) v)) (RuleRead (partsAt at k) (lineLength s + 1))))
-    (RuleFault 3))
-    (RuleFault 1)

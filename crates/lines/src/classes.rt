@@ -58,7 +58,7 @@ fn in_class(c: Class, b: u8) -> bool
 }
 
 // How many bytes at the start of s are in the class.
-pub(crate) fn prefix_of(c: Class, s: &[u8]) -> usize
+pub fn prefix_of(c: Class, s: &[u8]) -> usize
     ensures { λ r. ⌜ r ≡ prefix c (now (s .entry)) ⌝ }
 {
     let mut i = 0;

@@ -18,7 +18,7 @@ fn is_one(e: &[u8]) -> bool
 }
 
 // The number that refuses the expression e in a model of `vars` letters, or 0.
-pub(crate) fn fault_in(vars: usize, capitals: bool, e: &[u8]) -> u8
+pub fn fault_in(vars: usize, capitals: bool, e: &[u8]) -> u8
     ensures { λ r. ⌜ r ≡ faultOf vars capitals (now (e .entry)) ⌝ }
 {
     let n = e.len();

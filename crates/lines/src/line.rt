@@ -21,7 +21,7 @@ pub fn fault_number(l: Line) -> u8
 }
 
 // Where the line that is due ends: at its byte 10, if it is there.
-pub(crate) enum End {
+pub enum End {
     At(usize),
     Missing,
 }
@@ -41,7 +41,7 @@ pub fn starts_with(key: &[u8], s: &[u8]) -> bool
 }
 
 // The end of the line that starts with the key. A line with another key is not looked through.
-pub(crate) fn end_of(key: &[u8], s: &[u8]) -> End
+pub fn end_of(key: &[u8], s: &[u8]) -> End
     ensures { λ r. ⌜ r ≡ endOf (now (key .entry)) (now (s .entry)) ⌝ }
 {
     if !starts_with(key, s) {

@@ -7,10 +7,11 @@ use lib.Dec.{eqb, ltb}
 use lib.ListN.{length, drop, set, replicate}
 use Rattle.lines.specs.declared.line.Line.{Line}
 use Rattle.lines.specs.declared.line.Line.the-variants.{Fault, Read}
-use Rattle.lines.specs.declared.names.RuleLine.{RuleLine}
-use Rattle.lines.specs.declared.names.RuleLine.the-variants.{RuleFault, RuleRead}
-use Rattle.lines.specs.declared.names.RuleParts.{RuleParts}
-use Rattle.lines.specs.Lines.{countLine, stateLine, ruleLine, isTaken, varsKey, rulesKey, initKey, propKey}
+use Rattle.rule_lines.specs.declared.names.RuleLine.{RuleLine}
+use Rattle.rule_lines.specs.declared.names.RuleLine.the-variants.{RuleFault, RuleRead}
+use Rattle.rule_lines.specs.declared.names.RuleParts.{RuleParts}
+use Rattle.lines.specs.Lines.{countLine, stateLine, varsKey, rulesKey, initKey, propKey}
+use Rattle.rule_lines.specs.RuleLines.{ruleLine, isTaken}
 use Rattle.models.specs.Properties.{propertyCount}
 use Rattle.models.specs.declared.model.Outcome.the-variants.{Accepted, Refused}
 use Rattle.models.specs.declared.progress.LineStart.{LineStart}

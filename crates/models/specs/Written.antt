@@ -12,7 +12,8 @@ use Rattle.sets.specs.Kept.{kept}
 use Rattle.exprs.specs.Expr.{Expr, constant, written}
 use Rattle.exprs.specs.Reading.{readExpr}
 use Rattle.lines.specs.Decimal.{decimal}
-use Rattle.lines.specs.Lines.{varsKey, rulesKey, initKey, propKey, nameOf}
+use Rattle.lines.specs.Lines.{varsKey, rulesKey, initKey, propKey}
+use Rattle.rule_lines.specs.RuleLines.{nameOf}
 use Rattle.lines.specs.Written.{Rule, Within, LegalExpr, LegalRule, line, writtenRule}
 use Rattle.models.specs.declared.model.Model.{Model}
 use Rattle.models.specs.Reading.{readModel}

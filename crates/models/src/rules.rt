@@ -5,8 +5,8 @@ ghost use Rattle.models.specs.Reading.{withRule, nextRule, rulesRead};
 ghost use Rattle.models.specs.Places.{PartDue, PartsDue};
 use crate::progress::LineStart;
 use crate::progress::Progress;
-use lines::names::RuleLine;
-use lines::names::RuleParts;
+use rule_lines::names::RuleLine;
+use rule_lines::names::RuleParts;
 
 // One more rule, whose parts stand at these places, before a line at this place.
 fn with_rule(r: Progress, i: usize, parts: RuleParts, place: LineStart) -> Progress
@@ -38,7 +38,7 @@ fn next_rule(text: &[u8], vars: usize, i: usize, r: Progress) -> Progress
     let place = r.place;
     let names = r.names;
     let steps = r.steps;
-    let l = lines::names::rule_line(text, place.at, vars, names, steps, i);
+    let l = rule_lines::names::rule_line(text, place.at, vars, names, steps, i);
     match l {
         RuleLine::RuleFault(number) => crate::progress::with_fault(r, number),
         RuleLine::RuleRead(parts, bytes) => with_rule(

@@ -14,7 +14,7 @@ use Rattle.sets.specs.Laws.Sets.{without-le}
 use Rattle.sets.specs.Laws.Listed.{mem-select}
 use Rattle.sets.specs.Laws.First.{select-first, select-none}
 use Rattle.lines.specs.Bytes.{bytes}
-use Rattle.lines.specs.Lines.{nameOf}
+use Rattle.rule_lines.specs.RuleLines.{nameOf}
 use Rattle.models.specs.declared.model.Model.{Model}
 use Rattle.models.specs.Written.{Described, modelIn, ruleIn, ruleAt}
 use Rattle.models.specs.Laws.Written.{described-rule}

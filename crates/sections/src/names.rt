@@ -15,7 +15,7 @@ fn put_name(text: &[u8], m: Model, i: usize, p: Place, page: &mut [u8]) -> Place
 {
     let names = m.names;
     let steps = m.steps;
-    pages::page::put(lines::names::name_of(text, names, steps, i), p, page)
+    pages::page::put(rule_lines::names::name_of(text, names, steps, i), p, page)
 }
 
 // The names of a set's rules, in the model's order and with commas: the next rule is always the first of those that are left.

@@ -1,6 +1,5 @@
--- What is proved of the definitions. `Compare` has Lemma 1 of source document 000 and sameness, `Properties` has the theorem of several properties,
--- and `Search` proves that the breadth-first search finds the reached states and the trace. The others have the laws that these and the proofs
--- of code rest on.
+-- What is proved of the definitions. `Compare` has Lemma 1 of source document 000 and sameness, `Properties` has the theorem of several properties.
+-- The others have the laws that these and the proofs of code rest on.
 pub mod Least
 pub mod Count
 pub mod Walks
@@ -10,8 +9,3 @@ pub mod Holds
 pub mod Compare
 pub mod Properties
 pub mod HoldsTo
-pub mod Sooner
-pub mod SearchSteps
-pub mod Search
-pub mod Stored
-pub mod Traced

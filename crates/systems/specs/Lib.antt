@@ -1,16 +1,11 @@
 -- Transition systems. Read `System` for the meanings, `Verdict` for the functions that compute, `Judged` for the theorem that joins them,
--- `Properties` for several properties together.
--- `Search` is the breadth-first search that code makes, `ByTables` the system that the tables of code give a rule set. These files hold what has
--- to be believed; what is proved of it stands in `Laws`. Assumes nothing.
+-- `Properties` for several properties together; `ByTables` is the system that the tables of code give a rule set. These files hold what has to be
+-- believed; what is proved of it stands in `Laws`. Assumes nothing.
 pub mod Least
 pub mod Count
 pub mod System
 pub mod Verdict
 pub mod Judged
 pub mod Properties
-pub mod Search
 pub mod ByTables
-pub mod Marks
-pub mod Stored
-pub mod Traced
 pub mod Laws

@@ -1,7 +1,3 @@
-// Transition systems over states that are numbers: runs, reached states, verdict and trace. The steps of a rule set are read off the masks of
-// the pairs of states; no text is known here.
-pub mod breadth_first;
-pub mod runs;
+// Transition systems over states that are numbers: what is known of one beside the masks of the pairs of states, off which the steps of a rule set are
+// read. No text is known here. The searches that go over them are in `searches` and `verdicts`.
 pub mod tables;
-pub mod trace;
-pub mod verdict;

@@ -7,20 +7,15 @@ use mathlib.Core.List.{List}
 use native.Mathlib.Omega.{arith}
 use borrow.Author.Tests.{ltb-true}
 use lib.Dec.{ltb}
-use lib.ListN.{length, take, drop}
+use lib.ListN.{length, take}
 use Rattle.sets.specs.Laws.Choice.{by-test}
-use Rattle.lines.specs.declared.classes.Class.the-variants.{InName}
 use Rattle.lines.specs.declared.line.Line.{Line}
 use Rattle.lines.specs.declared.line.Line.the-variants.{Fault, Read}
-use Rattle.lines.specs.declared.names.RuleLine.{RuleLine}
-use Rattle.lines.specs.declared.names.RuleLine.the-variants.{RuleFault, RuleRead}
-use Rattle.lines.specs.declared.names.RuleParts.{RuleParts}
-use Rattle.lines.specs.Bytes.{prefix}
 use Rattle.slices.specs.Same.{same}
 use Rattle.lines.specs.Decimal.{decimal}
-use Rattle.lines.specs.Lines.{lineLength, isLine, valueOf, says, unlessFault, ruleKey, countIn, counted, countLine, faultOf, stateLine, partsAt, ruleLine}
+use Rattle.lines.specs.Lines.{lineLength, isLine, valueOf, says, unlessFault, countIn, counted, countLine, faultOf, stateLine}
 use Rattle.lines.specs.Written.{Within}
-use Rattle.lines.specs.Laws.Numbers.{by-expression, by-rule}
+use Rattle.lines.specs.Laws.Numbers.{by-expression}
 
 -- A line of the text s says v, at most `most`, and its bytes are within the text.
 pub record SaysWithin (s : List ℕ) (most v bytes : ℕ) : Type 0 where
@@ -45,7 +40,7 @@ pub line-within : (key s : List ℕ) → isLine key s ≡ true → lineLength s 
 unfolding isLine
 line-within key s e = ltb-true (lineLength s) (length s) (and-eq-true-iff (same (take (length key) s) key) (ltb (lineLength s) (length s)) .0 e .1)
 
-bytes-within : (key s : List ℕ) → isLine key s ≡ true → Within 1 (length s) (lineLength s + 1)
+pub bytes-within : (key s : List ℕ) → isLine key s ≡ true → Within 1 (length s) (lineLength s + 1)
 bytes-within key s l = omega (arith, line-within key s l)
 
 says-heard : (key s : List ℕ) (most v : ℕ) → isLine key s ≡ true → v ≤ most → Heard s most (says v s)
@@ -73,7 +68,7 @@ count-heard key most s =
 
 -- ---- the lines with an expression
 
-faultOf-le : (n : ℕ) (capitals : Bool) (e : List ℕ) → faultOf n capitals e ≤ 8
+pub faultOf-le : (n : ℕ) (capitals : Bool) (e : List ℕ) → faultOf n capitals e ≤ 8
 faultOf-le n capitals e =
     by-expression n capitals e (λ x. x ≤ 8) (λ _. omega arith) (λ _ _. omega arith) (λ _ _ _. omega arith) (λ _ _ _ _. omega arith) (λ _ _ _ _. omega arith)
 
@@ -88,31 +83,3 @@ state-heard key n s =
     by-test (Heard s (length key)) (isLine key s)
     (λ l. unless-heard key s (length key) (faultOf n false (valueOf key s)) (length key) l (faultOf-le n false (valueOf key s)) (omega arith))
     (λ _. fault 1 (omega arith))
-
--- ---- the rule lines
-
--- A rule line of the text s is refused by a number of 1 to 8, or its bytes are within the text.
-pub data RuleHeard (s : List ℕ) : RuleLine → Type 0 where
-  rule-fault : (number : ℕ) → Within 1 8 number → RuleHeard s (RuleFault number)
-  rule-said : {parts : RuleParts} {bytes : ℕ} → Within 1 (length s) bytes → RuleHeard s (RuleRead parts bytes)
-
--- the bytes of a rule line that was read
-pub rule-bytes : {s : List ℕ} {l : RuleLine} {parts : RuleParts} {bytes : ℕ} → RuleHeard s l → l ≡ RuleRead parts bytes → Within 1 (length s) bytes
-rule-bytes (rule-fault number h) q = let z : _≡_ {A = ℕ} 0 1 = cc in absurd (omega arith)
-rule-bytes {bytes = bytes} (rule-said {bytes = c} h) q = let r : c ≡ bytes = cc in rw (← r) h
-
-rule-unless : (s : List ℕ) (number : ℕ) (parts : RuleParts) → isLine ruleKey s ≡ true → number ≤ 8
-    → RuleHeard s (unlessFault RuleFault number (RuleRead parts (lineLength s + 1)))
-unfolding unlessFault
-rule-unless s zero parts l h = rule-said {bytes = lineLength s + 1} (bytes-within ruleKey s l)
-rule-unless s (suc number) parts l h = rule-fault (suc number) (omega arith)
-
-pub rule-heard : (n : ℕ) (taken : List ℕ → Bool) (at : ℕ) (s : List ℕ) → RuleHeard s (ruleLine n taken at s)
-rule-heard n taken at s =
-    let v = valueOf ruleKey s in
-    let k = prefix InName v in
-    by-rule n taken at s (RuleHeard s)
-    (λ _. rule-fault 1 (omega arith))
-    (λ _ _. rule-fault 3 (omega arith))
-    (λ _ _ _. rule-fault 4 (omega arith))
-    (λ l _ _. rule-unless s (faultOf n true (drop (k + 1) v)) (partsAt at k) l (faultOf-le n true (drop (k + 1) v)))

@@ -12,17 +12,19 @@ use Rattle.sets.specs.Laws.Choice.{by-test}
 use Rattle.lines.specs.declared.classes.Class.the-variants.{InLine, InName}
 use Rattle.lines.specs.declared.line.Line.{Line}
 use Rattle.lines.specs.declared.line.Line.the-variants.{Fault, Read}
-use Rattle.lines.specs.declared.names.RuleLine.{RuleLine}
-use Rattle.lines.specs.declared.names.RuleLine.the-variants.{RuleFault, RuleRead}
-use Rattle.lines.specs.declared.names.RuleParts.{RuleParts}
+use Rattle.rule_lines.specs.declared.names.RuleLine.{RuleLine}
+use Rattle.rule_lines.specs.declared.names.RuleLine.the-variants.{RuleFault, RuleRead}
+use Rattle.rule_lines.specs.declared.names.RuleParts.{RuleParts}
 use Rattle.lines.specs.Bytes.{belongs, prefix}
 use Rattle.lines.specs.Decimal.{decimal}
-use Rattle.lines.specs.Lines.{ruleKey, lineLength, isLine, valueOf, says, unlessFault, countIn, counted, countLine, all, stateLine, isNamed, partsAt, ruleLine}
+use Rattle.lines.specs.Lines.{ruleKey, lineLength, isLine, valueOf, says, unlessFault, countIn, counted, countLine, all, stateLine}
+use Rattle.rule_lines.specs.RuleLines.{isNamed, partsAt, ruleLine}
 use Rattle.lines.specs.Written.{Within, line}
 use Rattle.lines.specs.Laws.Bytes.{all-append, prefix-seam, all-prefix}
 use Rattle.lines.specs.Laws.Decimal.{decimal-apart}
-use Rattle.lines.specs.Laws.Numbers.{by-rule}
-use Rattle.lines.specs.Laws.Lines.{line-append, line-there, line-back, count-there, count-back, named-there, named-back, ruleKey-in-line}
+use Rattle.rule_lines.specs.Laws.Numbers.{by-rule}
+use Rattle.lines.specs.Laws.Lines.{line-append, line-there, line-back, count-there, count-back}
+use Rattle.rule_lines.specs.Laws.RuleLines.{named-there, named-back, ruleKey-in-line}
 use Rattle.models.specs.Refusals.{afterLines, LineAt, HasValue, CountLine, vars-line, rules-line, firstRuleLine, StateLine, init-line, prop-line, GivesCount, IsN, IsR, IsRuleLine, count-due, state-due, rule-due, ProperName, HasName, Expression, of-state, of-rule, FitsAt, line-missing, count-wrong, name-improper, name-taken, length-wrong, byte-other, letter-beyond, letter-capital, not-one, bytes-follow}
 use Rattle.models.specs.Laws.Grounds.{unbroken-in-line, in-line-unbroken, Unfit, unfit-length, unfit-byte, unfit-letter, unfit-capital, unfit-form, unfit-late, Tried, tried-none, tried-some, expression-tried}
 

@@ -13,9 +13,10 @@ use Rattle.sets.specs.Joint.{Each}
 use Rattle.sets.specs.Laws.Choice.{by-test}
 use Rattle.lines.specs.declared.classes.Class.the-variants.{InExpression, Allowed}
 use Rattle.slices.specs.Same.{same}
-use Rattle.lines.specs.Lines.{varsKey, rulesKey, initKey, propKey, ruleKey, isLine, valueOf, countIn, all, isOne, isNamed}
+use Rattle.lines.specs.Lines.{varsKey, rulesKey, initKey, propKey, ruleKey, isLine, valueOf, countIn, all, isOne}
+use Rattle.rule_lines.specs.RuleLines.{isNamed}
 use Rattle.slices.specs.Laws.Same.{same-is}
-use Rattle.lines.specs.Laws.Lines.{ruleKey-in-line}
+use Rattle.rule_lines.specs.Laws.RuleLines.{ruleKey-in-line}
 use Rattle.models.specs.Refusals.{afterLines, CountLine, vars-line, rules-line, firstRuleLine, StateLine, init-line, prop-line, GivesCount, IsN, IsR, IsRuleLine, count-due, state-due, rule-due, HasName, Expression, of-state, of-rule, FitsAt, line-missing, name-taken, bytes-follow}
 use Rattle.models.specs.Laws.Grounds.{length-fails, byte-fails, letter-fails, form-fails}
 use Rattle.models.specs.Laws.Fitting.{unfit-fits, count-key, state-key, nameFound, expressionFound, has-value, no-value, gives-there, count-fails, name-found, name-fails}

@@ -8,10 +8,12 @@ use lib.Dec.{eqb}
 use lib.ListN.{length, drop, length-drop}
 use Rattle.sets.specs.Laws.Choice.{by-test}
 use Rattle.lines.specs.declared.line.Line.{Line}
-use Rattle.lines.specs.declared.names.RuleLine.{RuleLine}
-use Rattle.lines.specs.Lines.{startsWith, isTaken, varsKey, rulesKey, initKey, propKey}
+use Rattle.rule_lines.specs.declared.names.RuleLine.{RuleLine}
+use Rattle.lines.specs.Lines.{startsWith, varsKey, rulesKey, initKey, propKey}
+use Rattle.rule_lines.specs.RuleLines.{isTaken}
 use Rattle.lines.specs.Written.{Within}
-use Rattle.lines.specs.Laws.Heard.{Heard, fault, said, RuleHeard, rule-fault, rule-said, count-heard, state-heard, rule-heard}
+use Rattle.lines.specs.Laws.Heard.{Heard, fault, said, count-heard, state-heard}
+use Rattle.rule_lines.specs.Laws.Heard.{RuleHeard, rule-fault, rule-said, rule-heard}
 use Rattle.models.specs.declared.model.Outcome.the-variants.{Refused}
 use Rattle.models.specs.declared.progress.LineStart.{LineStart}
 use Rattle.models.specs.declared.model.Reading.{Reading}

@@ -14,13 +14,15 @@ use lib.Seq.{drop-cons, drop-drop}
 use Rattle.exprs.specs.Expr.{written}
 use Rattle.lines.specs.declared.classes.Class.the-variants.{InLine}
 use Rattle.lines.specs.declared.line.Line.{Line}
-use Rattle.lines.specs.declared.names.RuleLine.{RuleLine}
+use Rattle.rule_lines.specs.declared.names.RuleLine.{RuleLine}
 use Rattle.slices.specs.Same.{same}
-use Rattle.lines.specs.Lines.{varsKey, rulesKey, initKey, propKey, ruleKey, lineLength, all, nameOf, isTaken}
+use Rattle.lines.specs.Lines.{varsKey, rulesKey, initKey, propKey, ruleKey, lineLength, all}
+use Rattle.rule_lines.specs.RuleLines.{nameOf, isTaken}
 use Rattle.lines.specs.Written.{Rule, LegalRule, writtenRule}
 use Rattle.lines.specs.Laws.Bytes.{all-append}
 use Rattle.slices.specs.Laws.Same.{same-is}
-use Rattle.lines.specs.Laws.Lines.{line-append, rule-in-line, ruleKey-in-line}
+use Rattle.lines.specs.Laws.Lines.{line-append}
+use Rattle.rule_lines.specs.Laws.RuleLines.{rule-in-line, ruleKey-in-line}
 use Rattle.models.specs.declared.progress.LineStart.{LineStart}
 use Rattle.models.specs.declared.model.Outcome.{Outcome}
 use Rattle.models.specs.declared.model.Outcome.the-variants.{Accepted, Refused}

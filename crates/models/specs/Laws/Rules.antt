@@ -14,15 +14,17 @@ use lib.ListN.{length, getD, take, drop, set, length-append, length-set, List·g
 use lib.Seq.{take-suc, take-length, take-append-seam, getD-set-same, getD-set-other, getD-take, length-take-le}
 use Rattle.sets.specs.Laws.Choice.{by-test}
 use Rattle.exprs.specs.Expr.{written}
-use Rattle.lines.specs.declared.names.RuleLine.{RuleLine}
-use Rattle.lines.specs.declared.names.RuleLine.the-variants.{RuleRead}
-use Rattle.lines.specs.declared.names.RuleParts.{RuleParts}
+use Rattle.rule_lines.specs.declared.names.RuleLine.{RuleLine}
+use Rattle.rule_lines.specs.declared.names.RuleLine.the-variants.{RuleRead}
+use Rattle.rule_lines.specs.declared.names.RuleParts.{RuleParts}
 use Rattle.slices.specs.Same.{same}
-use Rattle.lines.specs.Lines.{ruleKey, partsAt, ruleLine, nameOf, isTaken}
+use Rattle.lines.specs.Lines.{ruleKey}
+use Rattle.rule_lines.specs.RuleLines.{partsAt, ruleLine, nameOf, isTaken}
 use Rattle.lines.specs.Written.{Rule, LegalRule, writtenRule}
 use Rattle.slices.specs.Laws.Same.{same-true, same-false}
-use Rattle.lines.specs.Laws.Heard.{RuleHeard, rule-fault, rule-said, rule-heard}
-use Rattle.lines.specs.Laws.Lines.{rule-reads, line-append}
+use Rattle.rule_lines.specs.Laws.Heard.{RuleHeard, rule-fault, rule-said, rule-heard}
+use Rattle.lines.specs.Laws.Lines.{line-append}
+use Rattle.rule_lines.specs.Laws.RuleLines.{rule-reads}
 use Rattle.models.specs.declared.progress.Progress.{Progress}
 use Rattle.models.specs.Reading.{unlessRefused, ruled, nextRule, rulesRead}
 use Rattle.models.specs.Written.{ruleAt}

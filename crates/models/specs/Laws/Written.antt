@@ -14,7 +14,8 @@ use Rattle.exprs.specs.Laws.Reading.{reads-what-is-written}
 use Rattle.lines.specs.declared.line.Line.{Line}
 use Rattle.lines.specs.declared.line.Line.the-variants.{Fault, Read}
 use Rattle.lines.specs.Decimal.{decimal}
-use Rattle.lines.specs.Lines.{varsKey, rulesKey, initKey, propKey, ruleKey, startsWith, countLine, stateLine, nameOf}
+use Rattle.lines.specs.Lines.{varsKey, rulesKey, initKey, propKey, ruleKey, startsWith, countLine, stateLine}
+use Rattle.rule_lines.specs.RuleLines.{nameOf}
 use Rattle.lines.specs.Written.{Rule, Within, LegalExpr, LegalRule, line, writtenRule}
 use Rattle.lines.specs.Laws.Decimal.{decimal-short}
 use Rattle.lines.specs.Laws.Expressions.{letters-more}

@@ -1,5 +1,5 @@
--- What the crates above cite of masks and tables that are filled from a text: the masks have room, and each rule set has by them the system, the
--- verdict and the trace that it means. From the laws of the tables and of systems that agree on their states. Assumes nothing.
+-- What the crates above cite of masks and tables that are filled from a text: the masks have room, and each rule set has by them the system and the
+-- verdict that it means. From the laws of the tables and of systems that agree on their states. Assumes nothing.
 use Prim.Native.Nat.{ℕ, _*_, _^_, _≤_, _<_}
 use mathlib.Core.Path.{_≡_, sym, subst, _∙_}
 use mathlib.Core.List.{List}
@@ -12,8 +12,6 @@ use Rattle.models.specs.declared.model.Model.{Model}
 use Rattle.models.specs.Written.{described}
 use Rattle.systems.specs.Laws.Compare.{Same, same-holds}
 use Rattle.systems.specs.ByTables.{HasRoom, systemBy, judgeBy}
-use Rattle.systems.specs.Traced.{traceArray}
-use Rattle.systems.specs.Laws.Traced.{same-traceArray}
 use Rattle.semantics.specs.Meaning.{systemOf, judge}
 use Rattle.semantics.specs.TablesOf.{masksOf, tablesOf, Few, RoomFor}
 use Rattle.semantics.specs.Laws.Meaning.{judge-monotone}
@@ -45,15 +43,10 @@ module _ (before text : List ℕ) (m : Model) (r : RoomFor m before) where
   unfolding described
   same-system S h = Law.tables-same before (described text m) (r .few .vars) (r .room) S (below h)
 
-  -- the verdict
+  -- and the verdict.
   pub same-judge : (S : ℕ) → S < 2 ^ m .rules → judgeBy (masksOf before (described text m)) (tablesOf (described text m)) S ≡ judge (described text m) S
   unfolding judgeBy judge
   same-judge S h = same-holds (same-system S h)
-
-  -- and the trace.
-  pub same-trace : (S : ℕ) → S < 2 ^ m .rules
-      → traceArray (systemBy (masksOf before (described text m)) (tablesOf (described text m)) S) ≡ traceArray (systemOf (described text m) S)
-  same-trace S h = same-traceArray (same-system S h)
 
   -- By the tables a set holds if a part of it does.
   pub filled-monotone : Monotone (tablesOf (described text m) .rules) (judgeBy (masksOf before (described text m)) (tablesOf (described text m)))

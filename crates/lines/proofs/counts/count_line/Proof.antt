@@ -12,7 +12,7 @@ use Rattle.lines.specs.declared.line.End.{End}
 use Rattle.lines.specs.declared.line.End.the-variants.{Missing}
 use Rattle.lines.specs.Lines.{endOf, valueOf, countIn, counted, countLine}
 use Rattle.lines.specs.Laws.Lines.{counted-more}
-use Rattle.lines.proofs.LineFacts.{Ended, ended, no-line, end-within, value-is, says-is, on-line}
+use Rattle.lines.specs.Laws.Ended.{Ended, ended, no-line, end-within, value-is, says-is, on-line}
 use Rattle.lines.proofs.counts.count_line.Statement.{statement}
 use Rattle.lines.proofs.counts.count_line.Tie as tie
 

@@ -10,7 +10,7 @@ use borrow.Author.Needs.{needs}
 use lib.ListN.{length, take, drop}
 use Rattle.lines.specs.declared.line.Line.the-variants.{Fault, Read}
 use Rattle.lines.specs.Lines.{valueOf, says, unlessFault, faultOf, stateLine}
-use Rattle.lines.proofs.LineFacts.{Ended, ended, no-line, end-within, value-is, says-is, on-line, faulted}
+use Rattle.lines.specs.Laws.Ended.{Ended, ended, no-line, end-within, value-is, says-is, on-line, faulted}
 use Rattle.lines.specs.Laws.Lines.{unfaulted}
 use Rattle.lines.proofs.expressions.state_line.Statement.{statement}
 use Rattle.lines.proofs.expressions.state_line.Tie as tie

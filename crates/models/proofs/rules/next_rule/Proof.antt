@@ -6,11 +6,11 @@ use mathlib.Core.List.{List}
 use borrow.Author.Needs.{needs}
 use borrow.Author.Tests.{eq-eqb, ne-eqb}
 use lib.ListN.{drop}
-use Rattle.lines.specs.declared.names.RuleLine.{RuleLine}
-use Rattle.lines.specs.declared.names.RuleLine.the-variants.{RuleRead}
-use Rattle.lines.specs.declared.names.RuleParts.{RuleParts}
-use Rattle.lines.specs.Lines.{ruleLine, isTaken}
-use Rattle.lines.specs.Laws.Heard.{rule-bytes, rule-heard}
+use Rattle.rule_lines.specs.declared.names.RuleLine.{RuleLine}
+use Rattle.rule_lines.specs.declared.names.RuleLine.the-variants.{RuleRead}
+use Rattle.rule_lines.specs.declared.names.RuleParts.{RuleParts}
+use Rattle.rule_lines.specs.RuleLines.{ruleLine, isTaken}
+use Rattle.rule_lines.specs.Laws.Heard.{rule-bytes, rule-heard}
 use Rattle.models.specs.declared.progress.Progress.{Progress}
 use Rattle.models.specs.Places.{Placed, Passes}
 use Rattle.models.specs.Reading.{withFault, ruled, nextRule, withRule}

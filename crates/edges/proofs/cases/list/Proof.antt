@@ -1,0 +1,19 @@
+-- `edges::cases::list` meets its contract: what it lends is the front of its eight bytes.
+-- Assumes nothing.
+use mathlib.Core.Path.{sym}
+use mathlib.Core.List.{[], _∷_}
+use lib.Seq.{length-take-le}
+use borrow.Author.Needs.{needs}
+use Rattle.edges.proofs.cases.list.Statement.{statement}
+use Rattle.edges.proofs.cases.list.Tie as tie
+
+pub list-spec : {M : Type 1} → statement M
+list-spec =
+    tie.close
+    (tie.spec
+    (λ c. search needs)
+    (λ c. let p = c .before .before in sym (length-take-le (p .args .room) (201 ∷ 202 ∷ 203 ∷ 204 ∷ 205 ∷ 206 ∷ 207 ∷ 208 ∷ []) (p .pre)))
+    (λ c κs. search needs)
+    (λ c κs. search needs)
+    (λ c κs. search needs)
+    (λ c. search needs))

@@ -1,0 +1,114 @@
+// What each call of a case is given and answers. Field 0 says which call it is, and field 1 is the case's name. Field 2 is a model text, field 3 how many
+// bytes are lent, at most eight, and field 4 a set; of a look-up field 2 is the core list and field 3 the cut list.
+ghost use Prim.Native.Nat.{_≤_};
+use crate::fields;
+use crate::shown;
+use libc::STDOUT_FILENO;
+use sorting::kinds::Kind;
+use sorting::which::WhichList;
+
+// The eight lent bytes held 201 to 208 before, so that a byte shown from another place is seen.
+fn judge(text: &[u8], room: usize, set: u32)
+    requires { ⌜ room ≤ 8 ⌝ }
+{
+    let mut lent = [201u8, 202, 203, 204, 205, 206, 207, 208];
+    let answer = calls::judging::judge(text, set, &mut lent[..room]);
+    shown::verdict(answer);
+    shown::lent_bytes(lent);
+}
+
+fn list(text: &[u8], which: WhichList, room: usize)
+    requires { ⌜ room ≤ 8 ⌝ }
+{
+    let mut lent = [201u8, 202, 203, 204, 205, 206, 207, 208];
+    let answer = calls::listing::list(text, which, &mut lent[..room]);
+    shown::count(answer);
+    shown::lent_bytes(lent);
+}
+
+fn kinds(text: &[u8]) {
+    shown::set(b"must=", calls::kinds::give(text, Kind::Must));
+    shown::set(b" may=", calls::kinds::give(text, Kind::May));
+    shown::set(b" irr=", calls::kinds::give(text, Kind::Irrelevant));
+}
+
+// What every call answers for a text, and for one of its sets.
+fn answers(text: &[u8], set: u32) {
+    judge(text, 8, set);
+    io::write_all(STDOUT_FILENO, b"\nits cores: ");
+    list(text, WhichList::Cores, 8);
+    io::write_all(STDOUT_FILENO, b"\nits cuts: ");
+    list(text, WhichList::Cuts, 8);
+    io::write_all(STDOUT_FILENO, b"\nits rules: ");
+    kinds(text);
+}
+
+// The two lists have one lifetime, since the witness is a part of either.
+fn look_up<'a>(cores: &'a [u8], cuts: &'a [u8], set: u32) {
+    shown::said(lookup::suffices::suffices(set, cores, cuts));
+    let part = lookup::suffices::witness(set, cores, cuts);
+    if part.len() == 0 {
+        io::write_all(STDOUT_FILENO, b", no witness");
+    } else {
+        shown::bytes(b", witness", part);
+    }
+}
+
+fn look_up_in_two(cores: &[u8], line: &[u8], set: u32) {
+    let mut cuts = [0u8; 2048];
+    let n = fields::bytes_in(fields::field(line, 3), &mut cuts);
+    look_up(cores, &cuts[..n], set);
+}
+
+// The calls that are given a text.
+fn ask(call: &[u8], text: &[u8], room: usize, set: u32)
+    requires { ⌜ room ≤ 8 ⌝ }
+{
+    if slices::parts::same_bytes(call, b"judge") {
+        return judge(text, room, set);
+    }
+    if slices::parts::same_bytes(call, b"cores") {
+        return list(text, WhichList::Cores, room);
+    }
+    if slices::parts::same_bytes(call, b"cuts") {
+        return list(text, WhichList::Cuts, room);
+    }
+    if slices::parts::same_bytes(call, b"kinds") {
+        return kinds(text);
+    }
+    if slices::parts::same_bytes(call, b"every call") {
+        return answers(text, set);
+    }
+    if slices::parts::same_bytes(call, b"read") {
+        let reading = models::model::read_model(text);
+        let outcome = reading.outcome;
+        return shown::outcome(outcome);
+    }
+    io::write_all(STDOUT_FILENO, b"no such call");
+}
+
+fn answer(line: &[u8], first: &[u8]) {
+    let call = fields::field(line, 0);
+    let room = fields::number_in(fields::field(line, 3)) % 9;
+    let set = fields::number_in(fields::field(line, 4));
+    if slices::parts::same_bytes(call, b"look up") {
+        return look_up_in_two(first, line, set);
+    }
+    if slices::parts::same_bytes(call, b"look up in one list") {
+        return look_up(first, first, set);
+    }
+    ask(call, first, room as usize, set);
+}
+
+// The case's name, and what the call answers.
+pub(crate) fn run_line(line: &[u8]) {
+    if slices::parts::byte_at(line, 0) == b'#' {
+        return;
+    }
+    let mut first = [0u8; 2048];
+    let n = fields::bytes_in(fields::field(line, 2), &mut first);
+    io::write_all(STDOUT_FILENO, fields::field(line, 1));
+    io::write_all(STDOUT_FILENO, b": ");
+    answer(line, &first[..n]);
+    io::write_all(STDOUT_FILENO, b"\n");
+}

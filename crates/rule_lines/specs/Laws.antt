@@ -1,0 +1,4 @@
+-- What is proved of the definitions of this crate.
+pub mod Numbers
+pub mod Heard
+pub mod RuleLines

@@ -1,0 +1,54 @@
+-- Which number refuses a rule line, by cases: the first test that is failed tells it. The theorem of the crate `models` about the first number that fits
+-- rests on this for the order within a line. From the definitions of `RuleLines`.
+use Prim.Native.Nat.{ℕ, _+_}
+use mathlib.Core.Path.{_≡_, sym, subst}
+use mathlib.Core.Bool.{Bool, true, false}
+use mathlib.Core.List.{List}
+use lib.ListN.{take, drop}
+use Rattle.lines.specs.declared.classes.Class.the-variants.{InName}
+use Rattle.rule_lines.specs.declared.names.RuleLine.{RuleLine}
+use Rattle.rule_lines.specs.declared.names.RuleLine.the-variants.{RuleFault, RuleRead}
+use Rattle.lines.specs.Bytes.{prefix}
+use Rattle.lines.specs.Lines.{ruleKey, lineLength, isLine, valueOf, unlessFault, faultOf}
+use Rattle.rule_lines.specs.RuleLines.{isNamed, partsAt, ruleLine}
+use Rattle.lines.specs.Laws.Numbers.{tested}
+
+module _ (n : ℕ) (taken : List ℕ → Bool) (at : ℕ) (s : List ℕ) where
+  -- what stands behind `rule=`, and how many bytes of a name it begins with
+  abbrev value : List ℕ
+  value = valueOf ruleKey s
+
+  abbrev named : ℕ
+  named = prefix InName value
+
+  -- what the line is behind a name that no earlier rule has
+  abbrev behindName : RuleLine
+  behindName = unlessFault RuleFault (faultOf n true (drop (named + 1) value)) (RuleRead (partsAt at named) (lineLength s + 1))
+
+  -- 1 comes before 3, 3 before 4, and 4 before the numbers of the expression.
+  pub record RuleNumbers (l : RuleLine) : Type 0 where
+    pub byLine : isLine ruleKey s ≡ false → l ≡ RuleFault 1
+    pub byName : isLine ruleKey s ≡ true → isNamed value ≡ false → l ≡ RuleFault 3
+    pub byTaken : isLine ruleKey s ≡ true → isNamed value ≡ true → taken (take named value) ≡ true → l ≡ RuleFault 4
+    pub byRest : isLine ruleKey s ≡ true → isNamed value ≡ true → taken (take named value) ≡ false → l ≡ behindName
+
+  pub rule-numbers : RuleNumbers (ruleLine n taken at s)
+  unfolding ruleLine
+  rule-numbers = record {
+    byLine = λ a. rw a;
+    byName = λ a b. rw (a, b);
+    byTaken = λ a b c. rw (a, b, c);
+    byRest = λ a b c. rw (a, b, c);
+  }
+
+  -- what is true in each of these cases is true of the line
+  pub by-rule : (P : RuleLine → Type 0) → (isLine ruleKey s ≡ false → P (RuleFault 1)) → (isLine ruleKey s ≡ true → isNamed value ≡ false → P (RuleFault 3))
+      → (isLine ruleKey s ≡ true → isNamed value ≡ true → taken (take named value) ≡ true → P (RuleFault 4))
+      → (isLine ruleKey s ≡ true → isNamed value ≡ true → taken (take named value) ≡ false → P behindName) → P (ruleLine n taken at s)
+  by-rule P one three four rest =
+      let x = rule-numbers in
+      tested (isLine ruleKey s) (λ a.
+      tested (isNamed value) (λ b.
+      tested (taken (take named value)) (λ c. subst P (sym (x .byTaken a b c)) (four a b c)) (λ c. subst P (sym (x .byRest a b c)) (rest a b c)))
+      (λ b. subst P (sym (x .byName a b)) (three a b)))
+      (λ a. subst P (sym (x .byLine a)) (one a))

@@ -1,0 +1,77 @@
+// The breadth-first search that collects the reached states with a run to each, in the order of marking. No pair of states is tried twice.
+ghost use mathlib.Core.Path.{_≡_};
+ghost use mathlib.Core.List.{[]};
+ghost use Prim.Native.Nat.{_≤_};
+ghost use lib.ListN.{getD};
+ghost use Rattle.searches.specs.Search.{tryRow, search};
+ghost use Rattle.systems.specs.ByTables.{markAt, stepBy, HasRoom, systemBy};
+ghost use Rattle.searches.specs.Stored.{runsIn, Stores, Triable, reachedOf};
+use crate::runs::Reached;
+use crate::runs::Runs;
+use systems::tables::Tables;
+
+// The start states are marked, by number.
+fn find_starts(t: Tables) -> Runs
+    requires { ⌜ t .states ≤ 128 ⌝ }
+    ensures { λ r. ⌜ Stores (tryRow (markAt (t .start)) [] (t .states) []) r ⌝ }
+{
+    let mut x = Runs {
+        marks: [false; 128],
+        count: 0,
+        order: [0; 128],
+        parents: [0; 128],
+    };
+    let mut s = 0;
+    while s < t.states {
+        if t.start[s] {
+            x = crate::runs::mark(x, 128, s);
+        }
+        s += 1;
+    }
+    x
+}
+
+// The run at place i is tried with every state, by number. The masks have the rows of the states alone, so it has to end in one of them.
+fn try_row(masks: &[u16], states: usize, set: u16, i: usize, x: Runs) -> Runs
+    requires { ⌜ Triable (now masks) states i x ⌝ }
+    ensures { λ r.
+        ⌜ Stores (tryRow (stepBy (now (masks .entry)) set (getD (x .order) i 0)) (getD (runsIn x) i []) states (runsIn x)) r ⌝ }
+{
+    let s = x.order[i] as usize;
+    let mut y = x;
+    let mut t = 0;
+    while t < states {
+        if ((masks[128 * s + t] & set) == set) & !y.marks[t] {
+            y = crate::runs::mark(y, i, t);
+        }
+        t += 1;
+    }
+    y
+}
+
+// Every run is tried once, in the order of marking.
+pub(crate) fn explore(masks: &[u16], t: Tables, set: u16) -> Runs
+    requires { ⌜ HasRoom (now masks) t ⌝ }
+    ensures { λ r. ⌜ Stores (search (systemBy (now (masks .entry)) t set)) r ⌝ }
+{
+    let mut x = find_starts(t);
+    let mut i = 0;
+    while i < x.count {
+        x = try_row(masks, t.states, set, i, x);
+        i += 1;
+    }
+    x
+}
+
+// The reached states.
+pub fn reached(masks: &[u16], t: Tables, set: u16) -> Reached
+    requires { ⌜ HasRoom (now masks) t ⌝ }
+    ensures { λ r. ⌜ r ≡ reachedOf (systemBy (now (masks .entry)) t set) ⌝ }
+{
+    let x = explore(masks, t, set);
+    let marks = x.marks;
+    Reached {
+        marks,
+        count: x.count,
+    }
+}

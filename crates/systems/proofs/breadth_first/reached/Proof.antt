@@ -1,9 +1,0 @@
--- `systems::breadth_first::reached` meets its contract: the whole search stores the marks and the count.
--- Assumes nothing.
-use borrow.Author.Needs.{needs}
-use Rattle.systems.proofs.Stored.{stored-reached}
-use Rattle.systems.proofs.breadth_first.reached.Statement.{statement}
-use Rattle.systems.proofs.breadth_first.reached.Tie as tie
-
-pub reached-spec : {M : Type 1} → statement M
-reached-spec = tie.close (tie.spec (λ c κs. search needs) (λ c. stored-reached _ (c .before .explore .result) (c .before .explore .ensures)))

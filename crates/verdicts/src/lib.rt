@@ -1,0 +1,2 @@
+// The verdict on a set, with no trace: a search in any order.
+pub mod verdict;
