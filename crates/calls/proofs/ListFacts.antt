@@ -66,12 +66,12 @@ module _ {text : List ℕ} {m : Model} (r : IsRead text m) where
   kind-found kind S e = ap Set e ∙ sym (Law.kind-given text (r .outcome) kind)
 
 -- a text that is refused
-pub list-refused : (which : WhichList) (text lent : List ℕ) {number line : ℕ} → textOutcome text ≡ Refused number line → Lists which text lent (ListRefused number line) lent
+pub list-by-text : (which : WhichList) (text lent : List ℕ) {number line : ℕ} → textOutcome text ≡ Refused number line → Lists which text lent (ListRefused number line) lent
 unfolding listAnswer listBytes after
-list-refused which text lent e =
+list-by-text which text lent e =
     let o = list-numbers which text lent .byText _ _ e in
     (sym (given-refused ListRefused _ o), sym (given-refused _ _ o))
 
-pub kind-refused : (kind : Kind) (text : List ℕ) {number line : ℕ} → textOutcome text ≡ Refused number line → SetRefused number line ≡ kindAnswer kind text
+pub kind-by-text : (kind : Kind) (text : List ℕ) {number line : ℕ} → textOutcome text ≡ Refused number line → SetRefused number line ≡ kindAnswer kind text
 unfolding kindAnswer
-kind-refused kind text e = sym (given-refused SetRefused _ e)
+kind-by-text kind text e = sym (given-refused SetRefused _ e)

@@ -7,6 +7,14 @@ use libc::STDOUT_FILENO;
 use sorting::kinds::Kind;
 use sorting::which::WhichList;
 
+// How many of the eight bytes are lent: eight where the field has more.
+fn room_in(s: &[u8]) -> usize
+    ensures { λ r. ⌜ r ≤ 8 ⌝ }
+{
+    let n = fields::number_in(s);
+    if n < 8 { n as usize } else { 8 }
+}
+
 // The eight lent bytes held 201 to 208 before, so that a byte shown from another place is seen.
 fn judge(text: &[u8], room: usize, set: u32)
     requires { ⌜ room ≤ 8 ⌝ }
@@ -33,7 +41,7 @@ fn kinds(text: &[u8]) {
 }
 
 // What every call answers for a text, and for one of its sets.
-fn answers(text: &[u8], set: u32) {
+fn every_call(text: &[u8], set: u32) {
     judge(text, 8, set);
     io::write_all(STDOUT_FILENO, b"\nits cores: ");
     list(text, WhichList::Cores, 8);
@@ -77,7 +85,7 @@ fn ask(call: &[u8], text: &[u8], room: usize, set: u32)
         return kinds(text);
     }
     if slices::parts::same_bytes(call, b"every call") {
-        return answers(text, set);
+        return every_call(text, set);
     }
     if slices::parts::same_bytes(call, b"read") {
         let reading = models::model::read_model(text);
@@ -87,9 +95,10 @@ fn ask(call: &[u8], text: &[u8], room: usize, set: u32)
     io::write_all(STDOUT_FILENO, b"no such call");
 }
 
-fn answer(line: &[u8], first: &[u8]) {
+// The call of a line, where the bytes of field 2 are told already.
+fn run_call(line: &[u8], first: &[u8]) {
     let call = fields::field(line, 0);
-    let room = fields::number_in(fields::field(line, 3)) % 9;
+    let room = room_in(fields::field(line, 3));
     let set = fields::number_in(fields::field(line, 4));
     if slices::parts::same_bytes(call, b"look up") {
         return look_up_in_two(first, line, set);
@@ -97,7 +106,7 @@ fn answer(line: &[u8], first: &[u8]) {
     if slices::parts::same_bytes(call, b"look up in one list") {
         return look_up(first, first, set);
     }
-    ask(call, first, room as usize, set);
+    ask(call, first, room, set);
 }
 
 // The case's name, and what the call answers.
@@ -109,6 +118,6 @@ pub(crate) fn run_line(line: &[u8]) {
     let n = fields::bytes_in(fields::field(line, 2), &mut first);
     io::write_all(STDOUT_FILENO, fields::field(line, 1));
     io::write_all(STDOUT_FILENO, b": ");
-    answer(line, &first[..n]);
+    run_call(line, &first[..n]);
     io::write_all(STDOUT_FILENO, b"\n");
 }

@@ -2,7 +2,7 @@
 -- is read. Assumes nothing.
 use borrow.Author.Needs.{needs}
 use Rattle.calls.specs.Laws.Answers.{few, is-read, is-refused}
-use Rattle.calls.proofs.ListFacts.{list-found, list-refused}
+use Rattle.calls.proofs.ListFacts.{list-found, list-by-text}
 use Rattle.calls.proofs.listing.list.Statement.{statement}
 use Rattle.calls.proofs.listing.list.Tie as tie
 
@@ -15,7 +15,7 @@ list-spec =
     (λ c. search needs)
     (λ c κs. few (is-read _ (c .before .before .before .before .read-model .ensures) (c .before .before .enum-told .given .1)))
     (λ c κs. search needs)
-    (λ c. list-refused _ _ _ (is-refused _ (c .before .before .before .read-model .ensures) (c .before .outcome .given .1)))
+    (λ c. list-by-text _ _ _ (is-refused _ (c .before .before .before .read-model .ensures) (c .before .outcome .given .1)))
     (λ c. search needs)
     (λ c.
     let l = c .before .before .before in

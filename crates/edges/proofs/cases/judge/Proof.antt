@@ -1,7 +1,6 @@
 -- `edges::cases::judge` meets its contract: what it lends is the front of its eight bytes.
 -- Assumes nothing.
 use mathlib.Core.Path.{sym}
-use mathlib.Core.List.{[], _∷_}
 use lib.Seq.{length-take-le}
 use borrow.Author.Needs.{needs}
 use Rattle.edges.proofs.cases.judge.Statement.{statement}
@@ -12,7 +11,7 @@ judge-spec =
     tie.close
     (tie.spec
     (λ c. search needs)
-    (λ c. let p = c .before .before in sym (length-take-le (p .args .room) (201 ∷ 202 ∷ 203 ∷ 204 ∷ 205 ∷ 206 ∷ 207 ∷ 208 ∷ []) (p .pre)))
+    (λ c. sym (length-take-le _ _ (c .before .before .pre)))
     (λ c κs. search needs)
     (λ c κs. search needs)
     (λ c κs. search needs)
