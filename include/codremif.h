@@ -5,10 +5,12 @@
  * repeats what a host needs. It is C99, and C++98 or later.
  *
  * A model is a text: named Boolean rules over one second and the next, and one to four
- * properties. Six calls read it:
+ * properties. Seven calls read it:
  *
  *   codremif_judge   does a set of rules keep every property in every state that can be reached?
  *                    If not: a shortest run to a bad state
+ *   codremif_reached which states does a set of rules reach, and how many pairs of states were
+ *                    tried to find them?
  *   codremif_cores   every core: a set of rules that holds and has no proper part that holds
  *   codremif_cuts    every cut: a set of rules whose removal leaves a broken set, while no
  *                    proper part of it does that
@@ -40,6 +42,15 @@
  *         ... codremif_number(answer), codremif_line(answer) and codremif_words say why ...
  *     for (size_t i = 0; i < codremif_count(answer); i++)
  *         ... codremif_set_at(sets, i) is a core: rule k is in it if bit k of it is set ...
+ *
+ *   With a chosen set of its rules:
+ *
+ *     uint8_t marks[CODREMIF_MARK_BYTES] = {0};
+ *     uint64_t answer = codremif_reached(text, length, set, marks, sizeof marks);
+ *     if (!codremif_accepted(answer))
+ *         ... as above ...
+ *     for (size_t state = 0; state < sizeof marks; state++)
+ *         ... marks[state] is 1 if the set reaches the state, else 0, as it was past 2^N ...
  *
  *   With the list of its cores, of `cores_len` bytes, the list of its cuts, of `cuts_len`, and a
  *   chosen set:
@@ -84,12 +95,22 @@
  *   differ.
  *   A list (of cores or of cuts) has two bytes for each set, low byte first (codremif_set_at
  *   reads one), fewer rules first, then the smaller set number first. Each set stands in it once.
+ *   Marks are one byte for each state by number, 2^N bytes: 1 if it is reached, 0 if it is not.
  *
- * Properties. All answers are for the properties of the text jointly. A set holds exactly where it
- *   holds for each of them, and their order makes no difference. To ask by one property, hand over
- *   a text with this property line alone. The joint trace is the first of the traces by each
- *   property, in the order above: shorter ones first. The joint cores are those unions of one core
- *   by each property that have no other such union as a proper part.
+ * Reached states. A state is reached by a set if some run of the set ends in it; every start state
+ *   is. codremif_reached marks the start states first, by number; then each marked state, in the
+ *   order of marking, is tried once as the first of a pair with every state by number, marked or
+ *   not. A pair that meets every rule of the set marks its second state. As soon as 2^N states are
+ *   marked it ends, and no further pair is tried. So the pairs tried are 2^N for each reached
+ *   state if some state is not reached, never fewer than the states added to the start states,
+ *   none where every state is a start state, and at most 2^N for set 0.
+ *
+ * Properties. All answers are for the properties of the text jointly; which states are reached
+ *   does not depend on them. A set holds exactly where it holds for each of them, and their order
+ *   makes no difference. To ask by one property, hand over a text with this property line alone.
+ *   The joint trace is the first of the traces by each property, in the order above: shorter ones
+ *   first. The joint cores are those unions of one core by each property that have no other such
+ *   union as a proper part.
  *
  * Looking a set up. A listed core is inside a set if each of its rules is in the set. A listed cut
  *   is apart from a set if none of its rules is in the set. The core list is searched first, for
@@ -116,10 +137,10 @@
  *   cases MUST and MAY are 0, and every rule is irrelevant: these three do not say which it is.
  *
  * Who owns what. The caller owns all memory. The text is only read, and so are the two lists in
- *   which a set is looked up (`cores`, `cuts`). Lent bytes (`trace`, `sets`) are written from
- *   their start, and bytes past the trace or the list keep their content; what they held before
- *   makes no difference to an answer. No pointer is kept after the call. A witness is two bytes
- *   of the caller's own list and no copy. The calls need no alignment.
+ *   which a set is looked up (`cores`, `cuts`). Lent bytes (`trace`, `marks`, `sets`) are written
+ *   from their start, and bytes past the trace, the marks or the list keep their content; what
+ *   they held before makes no difference to an answer. No pointer is kept after the call. A
+ *   witness is two bytes of the caller's own list and no copy. The calls need no alignment.
  *
  * What the host answers for. Each pointer leads to as many bytes as the length beside it says,
  *   and lent bytes overlap nothing else that is handed over. The two lists in which a set is
@@ -131,12 +152,12 @@
  *
  * A refused call. Its answer has the number and the line of the first ground that fits (enum
  *   codremif_refusal), and every other part of it is 0: the verdict then reads broken, the
- *   length, count or set reads 0, and a set that is looked up reads unlisted. So ask
+ *   length, count, set or pairs read 0, and a set that is looked up reads unlisted. So ask
  *   codremif_accepted first. No lent byte has changed.
  *
  * How much to lend. A call does not tell how many bytes it would have needed. Lend
- *   CODREMIF_TRACE_BYTES or CODREMIF_LIST_BYTES: these are enough for every model, and such a
- *   call is never refused by 11.
+ *   CODREMIF_TRACE_BYTES, CODREMIF_MARK_BYTES or CODREMIF_LIST_BYTES: these are enough for every
+ *   model, and such a call is never refused by 11.
  *
  * Threads and signals. The library has no global state and nothing in it is written: any number
  *   of threads may call it at once, on the same text or lists too, with lent bytes of their own.
@@ -150,13 +171,13 @@
  *   see past a frame of the library. Nothing is thrown, and no function of the host is called, so
  *   no exception ever has to pass it.
  *
- * Time. Judging a set and giving MUST take a millisecond or two at the most, on one core of a
- *   machine of today; so do the lists of nearly every model. The time of a list grows with the
- *   cores and cuts: where a model has thousands of both it takes some ten milliseconds (40 is the
- *   most that was seen, on models/pages/eight_pages.txt). MAY and the irrelevant rules take as
- *   long as a list. Looking a set up takes at most 2 nanoseconds for each listed set that is
- *   passed over, and a few beside: 52 microseconds for two lists of CODREMIF_LIST_SETS. This is
- *   measured, not proved. That a call ends is proved.
+ * Time. Judging a set, marking the states that it reaches and giving MUST take a millisecond or
+ *   two at the most, on one core of a machine of today; so do the lists of nearly every model. The
+ *   time of a list grows with the cores and cuts: where a model has thousands of both it takes
+ *   some ten milliseconds (40 is the most that was seen, on models/pages/eight_pages.txt). MAY and
+ *   the irrelevant rules take as long as a list. Looking a set up takes at most 2 nanoseconds for
+ *   each listed set that is passed over, and a few beside: 52 microseconds for two lists of
+ *   CODREMIF_LIST_SETS. This is measured, not proved. That a call ends is proved.
  *
  * Stack. A call takes all its memory from the caller's stack: CODREMIF_STACK_BYTES at most, below
  *   the frame of the caller, what memcpy and memset take included. hosts/c measures it, and adds
@@ -192,8 +213,8 @@ extern "C" {
 #endif
 
 /* The version that this header belongs to: major * 1,000,000 + minor * 1,000 + patch. */
-#define CODREMIF_VERSION 1003000
-#define CODREMIF_VERSION_STRING "1.3.0"
+#define CODREMIF_VERSION 1004000
+#define CODREMIF_VERSION_STRING "1.4.0"
 
 /* An accepted text has at most so many bytes: two counts, `init`, four properties and 16 rules at
  * their longest. */
@@ -211,6 +232,9 @@ extern "C" {
 /* A trace has at most so many bytes: each of the 2^7 states once. */
 #define CODREMIF_TRACE_BYTES 128
 
+/* Marks have at most so many bytes: one for each of the 2^7 states. */
+#define CODREMIF_MARK_BYTES 128
+
 /* The list of a model has at most so many sets: no core is a part of another, nor is a cut, and of
  * 16 rules at most 16 over 8 sets are such (Sperner). */
 #define CODREMIF_LIST_SETS 12870
@@ -224,6 +248,7 @@ extern "C" {
 /* The stack that a call needs: each, and the most of them. hosts/c/stack.c measures it and
  * hosts/c/frames adds it up; both fail where these say too little. */
 #define CODREMIF_JUDGE_STACK_BYTES 65536
+#define CODREMIF_REACHED_STACK_BYTES 65536
 #define CODREMIF_CORES_STACK_BYTES 131072
 #define CODREMIF_CUTS_STACK_BYTES 131072
 #define CODREMIF_MUST_STACK_BYTES 65536
@@ -289,8 +314,8 @@ enum codremif_lookup {
 
 /*
  * The calls. Each answer is one 64-bit number: the number of the refusal (0: accepted), plus 256
- * times the line, plus 65,536 times the length, count, set or what is said of a set, plus 2^40 for
- * a verdict that holds or a core inside. Take it apart with the functions below.
+ * times the line, plus 65,536 times the length, count, set, pairs or what is said of a set, plus
+ * 2^40 for a verdict that holds or a core inside. Take it apart with the functions below.
  */
 
 /*
@@ -302,6 +327,16 @@ enum codremif_lookup {
 CODREMIF_LOOK_AT_IT
 uint64_t codremif_judge(const uint8_t *text, size_t text_len, uint32_t set, uint8_t *trace,
                         size_t trace_len);
+
+/*
+ * Marks the states that a set of rules reaches. Accepted: codremif_pairs, with the marks in the
+ * first 2^N bytes of `marks`.
+ * Refused by 1 to 9 (the text), 10 (the set), 11 (marks_len is less than 2^N, whatever is
+ * reached).
+ */
+CODREMIF_LOOK_AT_IT
+uint64_t codremif_reached(const uint8_t *text, size_t text_len, uint32_t set, uint8_t *marks,
+                          size_t marks_len);
 
 /*
  * Lists the cores. Accepted: codremif_count, with so many sets from the start of `sets`.
@@ -392,6 +427,12 @@ static inline int codremif_holds(uint64_t answer)
 
 /* Of codremif_judge: how many states the trace has. */
 static inline size_t codremif_length(uint64_t answer)
+{
+    return (answer >> 16) & 0xFFFFFF;
+}
+
+/* Of codremif_reached: how many pairs of states were tried. */
+static inline size_t codremif_pairs(uint64_t answer)
 {
     return (answer >> 16) & 0xFFFFFF;
 }

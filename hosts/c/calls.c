@@ -85,6 +85,16 @@ static int judged(struct text text, uint32_t set, size_t lent_bytes, uint64_t an
     return took(&filled, written, count) && good;
 }
 
+/* Whether marking gives this answer and writes these bytes, whatever the lent bytes held. */
+static int reached(struct text text, uint32_t set, size_t lent_bytes, uint64_t answer, const uint8_t *written, size_t count)
+{
+    struct lent clear = lend(lent_bytes, 0x00), filled = lend(lent_bytes, 0xEE);
+    int good = codremif_reached(text.bytes, text.length, set, clear.bytes, lent_bytes) == answer;
+    good = codremif_reached(text.bytes, text.length, set, filled.bytes, lent_bytes) == answer && good;
+    good = took(&clear, written, count) && good;
+    return took(&filled, written, count) && good;
+}
+
 /* Whether listing gives this answer and writes these bytes, whatever the lent bytes held. */
 static int listed(list_call call, struct text text, size_t lent_bytes, uint64_t answer, const uint8_t *written, size_t count)
 {
@@ -116,8 +126,8 @@ static void test_unpacking(void)
 {
     uint64_t answer = 11 + 256 * 21 + 65536 * (uint64_t)65535;
     check(codremif_number(answer) == 11 && codremif_line(answer) == 21, "the number and the line are taken out of an answer");
-    check(codremif_length(answer) == 65535 && codremif_count(answer) == 65535 && codremif_set(answer) == 65535,
-          "the length, the count and the set are taken out of an answer");
+    check(codremif_length(answer) == 65535 && codremif_count(answer) == 65535 && codremif_set(answer) == 65535 && codremif_pairs(answer) == 65535,
+          "the length, the count, the set and the pairs are taken out of an answer");
     check(!codremif_holds(answer) && codremif_holds(answer + TWO_40) == 1, "a verdict that holds is 2^40");
     check(codremif_number(TWO_40) == 0 && codremif_line(TWO_40) == 0 && codremif_length(TWO_40) == 0, "2^40 is no part of the others");
     int only_0 = 1;
@@ -155,6 +165,7 @@ static void test_constants(void)
         ways = ways * (16 - i + 1) / i;
     check(CODREMIF_LIST_SETS == ways && CODREMIF_LIST_BYTES == 2 * ways, "the longest list is 16 over 8 sets");
     check(CODREMIF_TRACE_BYTES == 1 << 7, "the longest trace is each of 2^7 states");
+    check(CODREMIF_MARK_BYTES == 1 << 7, "there is a mark for each of 2^7 states");
     check(CODREMIF_TEXT_BYTES == 1630 && CODREMIF_PROPERTIES == 4, "the longest text has 1,630 bytes and four properties");
     check(CODREMIF_TEXT_BYTES == 7 + 9 + (1 + CODREMIF_PROPERTIES) * (5 + 64 + 1) + CODREMIF_RULES * (5 + CODREMIF_NAME_BYTES + 1 + 64 + 1),
           "the longest text is all lines at their longest");
@@ -203,6 +214,74 @@ static void test_other_models(void)
     text = text_of(quiet, sizeof quiet - 1);
     check(listed(codremif_cores, text, 2, 65536, (const uint8_t[]){0, 0}, 2), "rule 1: the core is 0");
     check(listed(codremif_cuts, text, 0, 0, NULL, 0), "rule 1: there is no cut, which takes no byte");
+    free(text.bytes);
+}
+
+/* From 2 to 0 and from 0 to 1, and no step else. */
+static const char hop[] = "vars=2\nrules=1\ninit=b\nprop=1\nrule=hop:&!a&!B=b!A\n";
+static const char no_start[] = "vars=2\nrules=1\ninit=0\nprop=1\nrule=any:1\n";
+
+static void test_reached(void)
+{
+    struct text text = text_of(tremor, sizeof tremor - 1);
+    const uint8_t all[] = {1, 1, 1, 1, 1, 1, 1, 1}, by_ra[] = {1, 1, 1, 1, 0, 1, 0, 1}, by_all[] = {1, 1, 1, 1, 0, 0, 0, 1};
+    check(reached(text, 0, 8, 8 * 65536, all, 8), "Tremor: set 0 reaches every state in the eight pairs of the first");
+    check(reached(text, 1, 8, 48 * 65536, by_ra, 8), "Tremor: set 1 reaches six states, in eight pairs for each");
+    check(reached(text, 3, 8, 40 * 65536, by_all, 8) && reached(text, 4, 8, 40 * 65536, by_all, 8) && reached(text, 7, 8, 40 * 65536, by_all, 8),
+          "Tremor: sets 3, 4 and 7 reach five states, in eight pairs for each");
+    check(reached(text, 1, 9, 48 * 65536, by_ra, 8) && reached(text, 0, 300, 8 * 65536, all, 8), "Tremor: bytes past eight marks keep their content");
+    check(reached(text, 8, 8, 10, NULL, 0) && reached(text, 65536, 8, 10, NULL, 0) && reached(text, 0xFFFFFFFF, 8, 10, NULL, 0),
+          "Tremor: sets 8, 65536 and 2^32 - 1 have no marks and are refused by 10");
+    check(reached(text, 0, 7, 11, NULL, 0) && reached(text, 7, 7, 11, NULL, 0) && reached(text, 7, 5, 11, NULL, 0) && reached(text, 0, 0, 11, NULL, 0),
+          "Tremor: seven bytes for the marks are refused by 11, and five where five states are reached");
+    check(reached(text, 8, 7, 10, NULL, 0) && reached(text, 0xFFFFFFFF, 0, 10, NULL, 0), "Tremor: a set that it lacks comes before too few bytes");
+    free(text.bytes);
+    text = text_of(chain, sizeof chain - 1);
+    check(reached(text, 2, 4, 8 * 65536, all, 4), "N 2: set 2 reaches every state at the end of the second state's pairs");
+    check(reached(text, 3, 4, 4 * 65536, (const uint8_t[]){1, 0, 0, 0}, 4) && reached(text, 1, 4, 8 * 65536, (const uint8_t[]){1, 0, 1, 0}, 4),
+          "N 2: set 3 reaches the start state alone, set 1 one state more");
+    free(text.bytes);
+}
+
+static void test_reached_at_the_edges(void)
+{
+    struct text text = text_of(hop, sizeof hop - 1);
+    check(reached(text, 1, 4, 10 * 65536, (const uint8_t[]){1, 1, 1, 1}, 4), "the start states 2 and 3 are tried before 0, which is marked after them");
+    check(reached(text, 0, 4, 2 * 65536, (const uint8_t[]){1, 1, 1, 1}, 4), "the end comes in the middle of a state's pairs");
+    free(text.bytes);
+    text = text_of(no_start, sizeof no_start - 1);
+    check(reached(text, 0, 4, 0, (const uint8_t[]){0, 0, 0, 0}, 4) && reached(text, 1, 4, 0, (const uint8_t[]){0, 0, 0, 0}, 4) &&
+              reached(text, 0, 3, 11, NULL, 0),
+          "no start state: no state is reached, no pair tried, and yet four marks are due");
+    free(text.bytes);
+    text = text_of(quiet, sizeof quiet - 1);
+    check(reached(text, 0, 2, 0, (const uint8_t[]){1, 1}, 2) && reached(text, 1, 2, 0, (const uint8_t[]){1, 1}, 2) && reached(text, 1, 1, 11, NULL, 0),
+          "every state is a start state: no pair is tried");
+    free(text.bytes);
+}
+
+/* Seven bits: 128 states. */
+static void test_largest_reached(void)
+{
+    uint8_t marks[128];
+    struct model model;
+    model_bases(&model);
+    struct text text = text_of(model.text, model.length);
+    memset(marks, 1, sizeof marks);
+    check(reached(text, 0, 128, 128 * 65536, marks, 128), "seven bits: set 0 reaches 128 states in 128 pairs");
+    memset(marks + 1, 0, sizeof marks - 1);
+    check(reached(text, 0xFFFF, 128, 128 * 65536, marks, 128) && reached(text, 0xFFFF, 200, 128 * 65536, marks, 128),
+          "seven bits: the full set of the vectors reaches one state in 128 pairs");
+    check(reached(text, 0xFFFF, 127, 11, NULL, 0) && reached(text, 0, 127, 11, NULL, 0) && reached(text, 0x10000, 127, 10, NULL, 0),
+          "seven bits: 127 bytes are refused by 11, set 65536 by 10");
+    for (unsigned state = 0; state < 128; state++)
+        marks[state] = state % 2 == 0;
+    check(reached(text, 1, 128, 64 * 128 * 65536, marks, 128), "seven bits: the set of one vector reaches 64 states, in 128 pairs for each");
+    free(text.bytes);
+    model_counter(&model);
+    text = text_of(model.text, model.length);
+    memset(marks, 1, sizeof marks);
+    check(reached(text, 0x7F, 128, 127 * 128 * 65536, marks, 128), "a counter: each state but the last is tried with 128, the most that there is");
     free(text.bytes);
 }
 
@@ -323,6 +402,8 @@ static int refused_by_all(struct text text, uint64_t answer)
     for (size_t lent_bytes = 0; lent_bytes <= 128; lent_bytes += 128) {
         good = judged(text, 0, lent_bytes, answer, NULL, 0) && good;
         good = judged(text, 0xFFFFFFFF, lent_bytes, answer, NULL, 0) && good;
+        good = reached(text, 0, lent_bytes, answer, NULL, 0) && good;
+        good = reached(text, 0xFFFFFFFF, lent_bytes, answer, NULL, 0) && good;
         good = listed(codremif_cores, text, lent_bytes, answer, NULL, 0) && good;
         good = listed(codremif_cuts, text, lent_bytes, answer, NULL, 0) && good;
     }
@@ -353,6 +434,7 @@ static void test_null(void)
     const uint8_t *text = (const uint8_t *)tremor, *still = (const uint8_t *)quiet;
     size_t length = sizeof tremor - 1, still_length = sizeof quiet - 1;
     check(codremif_judge(NULL, 0, 0, lent, 4) == 257 && codremif_judge(NULL, 0, 0, NULL, 0) == 257 &&
+              codremif_reached(NULL, 0, 0, lent, 4) == 257 && codremif_reached(NULL, 0, 0, NULL, 0) == 257 &&
               codremif_cores(NULL, 0, lent, 4) == 257 && codremif_cores(NULL, 0, NULL, 0) == 257 &&
               codremif_cuts(NULL, 0, lent, 4) == 257 && codremif_cuts(NULL, 0, NULL, 0) == 257 && codremif_must(NULL, 0) == 257 &&
               codremif_may(NULL, 0) == 257 && codremif_irr(NULL, 0) == 257,
@@ -360,6 +442,9 @@ static void test_null(void)
     check(memcmp(lent, (const uint8_t[]){1, 2, 3, 4}, 4) == 0, "no text at NULL: the lent bytes keep their content");
     check(codremif_judge(text, length, 0, NULL, 0) == 11 && codremif_judge(text, length, 7, NULL, 0) == TWO_40,
           "no byte lent at NULL: a broken set is refused by 11, a set that holds is judged");
+    check(codremif_reached(text, length, 0, NULL, 0) == 11 && codremif_reached(text, length, 7, NULL, 0) == 11 &&
+              codremif_reached(text, length, 8, NULL, 0) == 10,
+          "no byte lent at NULL: the marks are refused by 11");
     check(codremif_cores(text, length, NULL, 0) == 11 && codremif_cuts(text, length, NULL, 0) == 11 &&
               codremif_cuts(still, still_length, NULL, 0) == 0,
           "no byte lent at NULL: a list of some sets is refused by 11, one of none is given");
@@ -372,8 +457,10 @@ static void test_unwritten_bytes(void)
     const uint8_t *text = (const uint8_t *)tremor;
     uint64_t answer = codremif_judge(text, sizeof tremor - 1, 1, lent, CODREMIF_TRACE_BYTES);
     check(answer == 2 * 65536 && lent[0] == 0 && lent[1] == 5, "bytes that were never written take a trace");
-    answer = codremif_cores(text, sizeof tremor - 1, lent + 2, CODREMIF_LIST_BYTES - 2);
-    check(answer == 2 * 65536 && lent[2] == 4 && lent[3] == 0, "bytes that were never written take a list");
+    answer = codremif_reached(text, sizeof tremor - 1, 1, lent + 2, CODREMIF_MARK_BYTES);
+    check(answer == 48 * 65536 && lent[2] == 1 && lent[6] == 0 && lent[9] == 1, "bytes that were never written take marks");
+    answer = codremif_cores(text, sizeof tremor - 1, lent + 10, CODREMIF_LIST_BYTES - 10);
+    check(answer == 2 * 65536 && lent[10] == 4 && lent[11] == 0, "bytes that were never written take a list");
     free(lent);
 }
 
@@ -436,8 +523,8 @@ static void test_bases(void)
 }
 
 struct answers {
-    uint64_t judge, cores, cuts, must, may, irr, suffices, witness;
-    uint8_t trace[CODREMIF_TRACE_BYTES], core_sets[CODREMIF_LIST_BYTES], cut_sets[CODREMIF_LIST_BYTES];
+    uint64_t judge, reached, cores, cuts, must, may, irr, suffices, witness;
+    uint8_t trace[CODREMIF_TRACE_BYTES], marks[CODREMIF_MARK_BYTES], core_sets[CODREMIF_LIST_BYTES], cut_sets[CODREMIF_LIST_BYTES];
 };
 
 static void ask_all(const struct model *model, struct answers *answers)
@@ -445,6 +532,7 @@ static void ask_all(const struct model *model, struct answers *answers)
     const uint8_t *text = (const uint8_t *)model->text;
     memset(answers, 0, sizeof *answers);
     answers->judge = codremif_judge(text, model->length, 2, answers->trace, sizeof answers->trace);
+    answers->reached = codremif_reached(text, model->length, 2, answers->marks, sizeof answers->marks);
     answers->cores = codremif_cores(text, model->length, answers->core_sets, sizeof answers->core_sets);
     answers->cuts = codremif_cuts(text, model->length, answers->cut_sets, sizeof answers->cut_sets);
     answers->must = codremif_must(text, model->length);
@@ -543,6 +631,9 @@ int main(void)
     test_constants();
     test_tremor();
     test_other_models();
+    test_reached();
+    test_reached_at_the_edges();
+    test_largest_reached();
     test_properties();
     test_kinds();
     test_refused_texts();

@@ -1,11 +1,11 @@
 /*
  * A small C host: host MODEL-FILE [SET]
  *
- * Reads a model file, judges the set of rules (the full set if none is given) and prints the verdict, the trace if it is broken, MUST, MAY, the
- * irrelevant rules, the cores and the cuts, each set as its number and its names. All of it is for the properties of the model jointly. Last, it
- * looks the set up in the two lists, as a screen does that has them already: `inside=` is the first core inside the set, `apart=` the first cut apart
- * from it. Exit status and messages are those of ./report: 0 answered; 1 refused, with one line on standard error; 2 wrong use, or something could
- * not be read or written.
+ * Reads a model file, judges the set of rules (the full set if none is given) and prints the verdict, the trace if it is broken, how many states the
+ * set reaches and which, how many pairs of states were tried for them, MUST, MAY, the irrelevant rules, the cores and the cuts, each set as its number
+ * and its names. All but the reached states is for the properties of the model jointly. Last, it looks the set up in the two lists, as a screen does
+ * that has them already: `inside=` is the first core inside the set, `apart=` the first cut apart from it. Exit status and messages are those of
+ * ./report: 0 answered; 1 refused, with one line on standard error; 2 wrong use, or something could not be read or written.
  */
 #include <errno.h>
 #include <stdio.h>
@@ -83,6 +83,34 @@ static int show_verdict(const struct text *text, uint32_t set)
     printf("verdict=%s\n", codremif_holds(answer) ? "holds" : "broken");
     for (size_t i = 0; i < codremif_length(answer); i++)
         printf("state=%u\n", trace[i]);
+    return 1;
+}
+
+/* How many states are reached, and their numbers with commas; no state is `-`. */
+static void print_states(const uint8_t *marks, size_t length)
+{
+    unsigned long count = 0;
+    for (size_t state = 0; state < length; state++)
+        count += marks[state];
+    printf("reached=%lu %s", count, count == 0 ? "-" : "");
+    const char *comma = "";
+    for (size_t state = 0; state < length; state++)
+        if (marks[state]) {
+            printf("%s%lu", comma, (unsigned long)state);
+            comma = ",";
+        }
+    printf("\n");
+}
+
+/* The bytes past the marks keep their content: a state that the model does not have counts as not reached. */
+static int show_reached(const struct text *text, uint32_t set)
+{
+    uint8_t marks[CODREMIF_MARK_BYTES] = {0};
+    uint64_t answer = codremif_reached(text->bytes, text->length, set, marks, sizeof marks);
+    if (!accepted(answer))
+        return 0;
+    print_states(marks, sizeof marks);
+    printf("pairs=%lu\n", (unsigned long)codremif_pairs(answer));
     return 1;
 }
 
@@ -169,8 +197,8 @@ int main(int argc, char **argv)
         return REFUSED;
     if (argc == 2)
         set = codremif_full_set(text.bytes, text.length);
-    if (!show_verdict(&text, set) || !show_set("must", codremif_must, &text) || !show_set("may", codremif_may, &text) ||
-        !show_set("irr", codremif_irr, &text) || !show_list("core", codremif_cores, &text, &cores) ||
+    if (!show_verdict(&text, set) || !show_reached(&text, set) || !show_set("must", codremif_must, &text) ||
+        !show_set("may", codremif_may, &text) || !show_set("irr", codremif_irr, &text) || !show_list("core", codremif_cores, &text, &cores) ||
         !show_list("cut", codremif_cuts, &text, &cuts) || !show_witness(&text, set, &cores, &cuts))
         return written(REFUSED);
     return written(ANSWERED);

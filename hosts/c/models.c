@@ -88,3 +88,11 @@ void model_bases(struct model *model)
         model_rule(model, i, expression);
     }
 }
+
+void model_counter(struct model *model)
+{
+    static const char *const bits[] = {"=A!a", "=B!=ba", "=C!=c&ab", "=D!=d&a&bc", "=E!=e&a&b&cd", "=F!=f&a&b&c&de", "=G!=g&a&b&c&d&ef"};
+    model_begin(model, 7, 7, "&!a&!b&!c&!d&!e&!f!g", "1");
+    for (unsigned i = 0; i < 7; i++)
+        model_rule(model, i, bits[i]);
+}

@@ -46,4 +46,7 @@ void model_pairs(struct model *model);
 void model_bases(struct model *model);
 extern const unsigned char model_vectors[16];
 
+/* Seven bits that count: from 0 each state has one next, and the last is 127. Seven rules, one for each bit. */
+void model_counter(struct model *model);
+
 #endif

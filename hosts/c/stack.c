@@ -21,13 +21,14 @@
 /* What a call without an array may be stated to need: so little is not rounded up as the others are. */
 #define SMALL_BYTES 1024
 
-enum call { JUDGE, CORES, CUTS, MUST, MAY, IRR, SUFFICES, WITNESS, CALLS };
+enum call { JUDGE, REACHED, CORES, CUTS, MUST, MAY, IRR, SUFFICES, WITNESS, CALLS };
 
 static const struct {
     const char *name;
     size_t stated;
 } calls[CALLS] = {
     {"codremif_judge", CODREMIF_JUDGE_STACK_BYTES},
+    {"codremif_reached", CODREMIF_REACHED_STACK_BYTES},
     {"codremif_cores", CODREMIF_CORES_STACK_BYTES},
     {"codremif_cuts", CODREMIF_CUTS_STACK_BYTES},
     {"codremif_must", CODREMIF_MUST_STACK_BYTES},
@@ -70,6 +71,7 @@ static uint64_t ask(const struct run *run)
     size_t length = run->model->length;
     switch (run->call) {
     case JUDGE: return codremif_judge(text, length, run->set, run->lent, run->lent_length);
+    case REACHED: return codremif_reached(text, length, run->set, run->lent, run->lent_length);
     case CORES: return codremif_cores(text, length, run->lent, run->lent_length);
     case CUTS: return codremif_cuts(text, length, run->lent, run->lent_length);
     case MUST: return codremif_must(text, length);
@@ -133,9 +135,12 @@ static uint64_t measure(const struct model *model, enum call call, uint32_t set,
 static void measure_all(const struct model *model, unsigned number)
 {
     const uint32_t sets[] = {0, 1, 0x5555, 0x7FFF, 0xFFFF, 0x10000};
-    for (size_t i = 0; i < sizeof sets / sizeof sets[0]; i++)
+    for (size_t i = 0; i < sizeof sets / sizeof sets[0]; i++) {
         measure(model, JUDGE, sets[i], CODREMIF_TRACE_BYTES);
+        measure(model, REACHED, sets[i], CODREMIF_MARK_BYTES);
+    }
     measure(model, JUDGE, 0, 0);
+    measure(model, REACHED, 0, 0);
     for (enum call call = CORES; call <= CUTS; call++) {
         measure(model, call, 0, CODREMIF_LIST_BYTES);
         measure(model, call, 0, 0);

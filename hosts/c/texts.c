@@ -1,9 +1,10 @@
 /*
  * texts COUNT: tests of what the header itself reads: how many rules an accepted text has, its full set and the names of its rules. Random models
  * with one to four properties are written here, so what is expected is known, and the library is asked whether it sees as many rules, whether MUST,
- * MAY and the irrelevant rules make up the full set, whether what is said of a set that is looked up in the two lists agrees with judging it, and
- * whether what it says of a set jointly follows from what it says by each property. Each text stands in a block of its own length, so that valgrind
- * sees a byte too many; cut-off and damaged texts must do no harm.
+ * MAY and the irrelevant rules make up the full set, whether what is said of a set that is looked up in the two lists agrees with judging it,
+ * whether what it says of a set jointly follows from what it says by each property, and whether a set reaches the states of its trace and no state
+ * that it does not reach with fewer rules. Each text stands in a block of its own length, so that valgrind sees a byte too many; cut-off and damaged
+ * texts must do no harm.
  */
 #include <stdio.h>
 #include <stdlib.h>
@@ -274,6 +275,42 @@ static void test_random_properties(unsigned count)
     check(several.unlike_trace == 0, "random models: the trace is the first of those by each property");
 }
 
+/* What came up of the reached states of random models, and what was wrong. */
+struct marked {
+    unsigned refused, broken, fewer, not_on_trace, more;
+};
+
+static void mark(const struct random_model *random, struct marked *marked)
+{
+    uint8_t marks[CODREMIF_MARK_BYTES] = {0}, with_a_rule[CODREMIF_MARK_BYTES] = {0};
+    uint32_t set = below(1u << random->rules), larger = set | 1u << below(random->rules);
+    struct judged judged = judge(&random->joint, set);
+    uint8_t *text = copy(random->joint.text, random->joint.length);
+    marked->refused += !codremif_accepted(codremif_reached(text, random->joint.length, set, marks, sizeof marks));
+    marked->refused += !codremif_accepted(codremif_reached(text, random->joint.length, larger, with_a_rule, sizeof with_a_rule));
+    marked->broken += judged.length > 0;
+    marked->fewer += memcmp(marks, with_a_rule, sizeof marks) != 0;
+    for (size_t i = 0; i < judged.length; i++)
+        marked->not_on_trace += marks[judged.trace[i]] != 1;
+    for (size_t state = 0; state < sizeof marks; state++)
+        marked->more += with_a_rule[state] > marks[state];
+    free(text);
+}
+
+static void test_random_reached(unsigned count)
+{
+    struct marked marked = {0, 0, 0, 0, 0};
+    for (unsigned i = 0; i < count; i++) {
+        struct random_model random;
+        random_model(&random);
+        mark(&random, &marked);
+    }
+    check(marked.refused == 0 && marked.broken > count / 10 && marked.fewer > count / 20,
+          "random models: states are marked, of broken sets, and fewer of them with a rule more");
+    check(marked.not_on_trace == 0, "random models: a set reaches each state of its trace");
+    check(marked.more == 0, "random models: with a rule more a set reaches no state more");
+}
+
 /* Of a text that is not accepted nothing is promised but that nothing outside it is read. */
 static void test_other_texts(void)
 {
@@ -315,6 +352,7 @@ int main(int argc, char **argv)
     test_random_models(count);
     test_random_lookups(count);
     test_random_properties(count);
+    test_random_reached(count);
     test_other_texts();
     test_longest_names();
     return failures != 0;

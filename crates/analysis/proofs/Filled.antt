@@ -1,6 +1,6 @@
--- What masks and tables that were filled from a text answer is what the model means: the verdicts, the trace of a set, MUST, the tables of the
+-- What masks and tables that were filled from a text answer is what the model means: the verdicts, the search of a set, MUST, the tables of the
 -- cores and the cuts; and what is read off these.
--- From the laws of the filled tables (`semantics`), of traces (`searches`) and of lists of judgements that agree (`sets`). Assumes nothing.
+-- From the laws of the filled tables (`semantics`) and of lists of judgements that agree (`sets`). Assumes nothing.
 use Prim.Native.Nat.{ℕ, _^_, _<_}
 use mathlib.Core.Path.{_≡_, ap, ap₂, _∙_}
 use mathlib.Core.List.{List}
@@ -13,10 +13,9 @@ use Rattle.sets.specs.Laws.Kinds.{some-less-must, full-less-some}
 use Rattle.models.specs.declared.model.Model.{Model}
 use Rattle.models.specs.Written.{described}
 use Rattle.systems.specs.declared.tables.Tables.{Tables}
-use Rattle.searches.specs.declared.trace.Trace.{Trace}
 use Rattle.systems.specs.ByTables.{HasRoom, systemBy, judgeBy}
-use Rattle.searches.specs.Traced.{traceArray}
-use Rattle.searches.specs.Laws.Traced.{same-traceArray}
+use Rattle.systems.specs.System.{System}
+use Rattle.systems.specs.Laws.Compare.{Same}
 use Rattle.semantics.specs.Meaning.{systemOf, judge}
 use Rattle.semantics.specs.TablesOf.{masksOf, tablesOf, RoomFor}
 use Rattle.models.specs.Laws.Written.{described-count}
@@ -47,8 +46,12 @@ module _ (text : List ℕ) {before : List ℕ} {m : Model} (r : RoomFor m before
   pub judges : Judges masks t
   judges = record { room = room; few = rw rules-are (r .few .rules); more = rw (p, q) (filled-monotone before text m r) }
 
-  pub trace-is : {S : ℕ} {x : Trace} → S < 2 ^ m .rules → x ≡ traceArray (systemBy masks t S) → x ≡ traceArray (systemOf (described text m) S)
-  trace-is {S} l e = e ∙ ap (λ a. traceArray (systemBy a t S)) p ∙ ap (λ a. traceArray (systemBy (masksOf before (described text m)) a S)) q ∙ same-traceArray (same-system before text m r S l)
+  -- what is the same for systems that agree on their states: the trace, and the reached states
+  pub search-is : {A : Type 0} {S : ℕ} {x : A} (f : System → A) → ((N M : System) → Same N M → f N ≡ f M)
+      → S < 2 ^ m .rules → x ≡ f (systemBy masks t S) → x ≡ f (systemOf (described text m) S)
+  search-is {S = S} f same l e =
+      e ∙ ap (λ a. f (systemBy a t S)) p ∙ ap (λ a. f (systemBy (masksOf before (described text m)) a S)) q
+      ∙ same _ _ (same-system before text m r S l)
 
   pub must-is : {S : ℕ} → S ≡ mustOf (t .rules) (judgeBy masks t) → S ≡ mustOf (m .rules) (judge (described text m))
   unfolding mustOf

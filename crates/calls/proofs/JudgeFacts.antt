@@ -1,5 +1,5 @@
 -- Each way out of judging a set of a text that is read: the answer, and the lent bytes afterwards.
--- From the order of the numbers (`Laws/Answers`) and the trace as `systems` gives it.
+-- From the order of the numbers (`Laws/Answers`) and the trace as `searches` gives it. Assumes nothing.
 use Prim.Native.Nat.{ℕ, _^_, _≤_, _<_}
 use mathlib.Core.Path.{_≡_, refl, sym, ap, _∙_}
 use mathlib.Core.Logic.{_≢_}

@@ -5,21 +5,26 @@ use Prim.Native.Nat.{ℕ, _^_}
 use mathlib.Core.Path.{_≡_}
 use mathlib.Core.Bool.{Bool, true, false, cond}
 use mathlib.Core.List.{List}
+use mir.Val.{boolByte}
 use lib.Dec.{leb, ltb}
 use lib.ListN.{length}
 use Rattle.sets.specs.Lists.{bytesOf, overwritten}
+use Rattle.sets.specs.Tabulated.{tabulate}
 use Rattle.models.specs.declared.model.Outcome.{Outcome}
 use Rattle.models.specs.declared.model.Outcome.the-variants.{Accepted, Refused}
 use Rattle.models.specs.Reading.{readModel}
 use Rattle.models.specs.Written.{modelIn}
 use Rattle.systems.specs.System.{System}
 use Rattle.systems.specs.Verdict.{holds, traceOf}
+use Rattle.searches.specs.Search.{isMarked, search}
 use Rattle.semantics.specs.Meaning.{systemOf, judge}
 use Rattle.sorting.specs.declared.which.WhichList.{WhichList}
 use Rattle.sorting.specs.Which.{listed, ofKind}
 use Rattle.sorting.specs.declared.kinds.Kind.{Kind}
 use Rattle.calls.specs.declared.answers.JudgeAnswer.{JudgeAnswer}
 use Rattle.calls.specs.declared.answers.JudgeAnswer.the-variants.{Refused as JudgeRefused, Holds, Broken}
+use Rattle.calls.specs.declared.answers.ReachedAnswer.{ReachedAnswer}
+use Rattle.calls.specs.declared.answers.ReachedAnswer.the-variants.{Refused as ReachedRefused, Pairs}
 use Rattle.calls.specs.declared.answers.ListAnswer.{ListAnswer}
 use Rattle.calls.specs.declared.answers.ListAnswer.the-variants.{Refused as ListRefused, Count}
 use Rattle.calls.specs.declared.answers.SetAnswer.{SetAnswer}
@@ -45,6 +50,20 @@ judgeIn text S = judge (modelIn text) S
 unfoldable pub traceIn : List ℕ → ℕ → List ℕ
 unfolding systemIn traceOf
 traceIn text S = traceOf (systemIn text S)
+
+-- How many states its model has.
+unfoldable pub statesIn : List ℕ → ℕ
+unfolding modelIn
+statesIn text = 2 ^ modelIn text .vars
+
+-- What the search of a set marks, a byte for each state by number, 1 for a reached one and 0 for one that is not; and how many pairs it tries.
+unfoldable pub marksIn : List ℕ → ℕ → List ℕ
+unfolding statesIn systemIn search isMarked
+marksIn text S = tabulate (statesIn text) (λ s. boolByte (isMarked (search (systemIn text S) .runs) s))
+
+unfoldable pub pairsIn : List ℕ → ℕ → ℕ
+unfolding systemIn search
+pairsIn text S = search (systemIn text S) .pairs
 
 -- The core list or the cut list; and MUST, MAY or the irrelevant rules.
 unfoldable pub listIn : WhichList → List ℕ → List ℕ
@@ -83,10 +102,20 @@ unfoldable pub lengthOutcome : List ℕ → List ℕ → Outcome
 unfolding refusedIf
 lengthOutcome new lent = refusedIf (ltb (length lent) (length new)) 11
 
+-- A call that is handed a set, and writes these new bytes.
+unfoldable pub askedOutcome : (text : List ℕ) (S : ℕ) (new lent : List ℕ) → Outcome
+unfolding _orElse_ textOutcome setOutcome lengthOutcome
+askedOutcome text S new lent = textOutcome text orElse setOutcome text S orElse lengthOutcome new lent
+
 -- Judging a set needs one byte for each state of the trace; a set that holds needs none.
 unfoldable pub judgeOutcome : List ℕ → ℕ → List ℕ → Outcome
-unfolding _orElse_ textOutcome setOutcome lengthOutcome traceIn
-judgeOutcome text S lent = textOutcome text orElse setOutcome text S orElse lengthOutcome (traceIn text S) lent
+unfolding askedOutcome traceIn
+judgeOutcome text S lent = askedOutcome text S (traceIn text S) lent
+
+-- Its reached states need one byte for each state of the model.
+unfoldable pub reachedOutcome : List ℕ → ℕ → List ℕ → Outcome
+unfolding askedOutcome marksIn
+reachedOutcome text S lent = askedOutcome text S (marksIn text S) lent
 
 -- Listing sets needs two bytes for each. (The rules of a kind need none: that call's outcome is the text's.)
 unfoldable pub listOutcome : WhichList → List ℕ → List ℕ → Outcome
@@ -118,6 +147,15 @@ judgeAnswer text S lent = given JudgeRefused (judgeOutcome text S lent) (verdict
 unfoldable pub judgeBytes : List ℕ → ℕ → List ℕ → List ℕ
 unfolding after judgeOutcome traceIn
 judgeBytes text S lent = after (judgeOutcome text S lent) (traceIn text S) lent
+
+-- Give the reached states of a set, with lent bytes for the marks, one per state.
+unfoldable pub reachedAnswer : List ℕ → ℕ → List ℕ → ReachedAnswer
+unfolding given reachedOutcome pairsIn
+reachedAnswer text S lent = given ReachedRefused (reachedOutcome text S lent) (Pairs (pairsIn text S))
+
+unfoldable pub reachedBytes : List ℕ → ℕ → List ℕ → List ℕ
+unfolding after reachedOutcome marksIn
+reachedBytes text S lent = after (reachedOutcome text S lent) (marksIn text S) lent
 
 -- List the cores, or the cuts.
 unfoldable pub listAnswer : WhichList → List ℕ → List ℕ → ListAnswer

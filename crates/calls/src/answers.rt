@@ -7,6 +7,12 @@ pub enum JudgeAnswer {
     Broken(usize),
 }
 
+// Of the reached states of a set: how many pairs of states were tried to collect them.
+pub enum ReachedAnswer {
+    Refused(u8, usize),
+    Pairs(usize),
+}
+
 // Of a list of cores or of cuts: how many sets it has.
 pub enum ListAnswer {
     Refused(u8, usize),

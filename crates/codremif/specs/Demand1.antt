@@ -11,20 +11,34 @@ use Rattle.systems.specs.System.{Trace}
 use Rattle.sorting.specs.declared.which.WhichList.{WhichList}
 use Rattle.sorting.specs.declared.kinds.Kind.{Kind}
 use Rattle.calls.specs.declared.answers.JudgeAnswer.the-variants.{Refused as JudgeRefused}
+use Rattle.calls.specs.declared.answers.ReachedAnswer.the-variants.{Refused as ReachedRefused}
 use Rattle.calls.specs.declared.answers.ListAnswer.the-variants.{Refused as ListRefused}
 use Rattle.calls.specs.declared.answers.SetAnswer.the-variants.{Refused as SetRefused}
-use Rattle.calls.specs.Answers.{rulesIn, systemIn, listIn, judgeAnswer, judgeBytes, listAnswer, listBytes, kindAnswer}
-use Rattle.codremif.specs.Packing.{Parts, refused, judgeParts, listParts, setParts, packed}
+use Rattle.calls.specs.Answers.{rulesIn, statesIn, systemIn, listIn, judgeAnswer, judgeBytes, reachedAnswer, reachedBytes, listAnswer, listBytes, kindAnswer}
+use Rattle.codremif.specs.Packing.{Parts, refused, judgeParts, reachedParts, listParts, setParts, packed}
 
 -- ---- the numbers of each call
 
--- Judging a set: 1 to 9, 10, 11.
-pub data JudgeFits (text : List ℕ) (S : ℕ) (lent : List ℕ) : (number line : ℕ) → Type 0 where
-  judge-text : {number line : ℕ} → FitsAt text number line → JudgeFits text S lent number line
+-- A call that is handed a set: 1 to 9, 10, 11.
+pub data AskedFits (text : List ℕ) (S : ℕ) (TooFew : Type 0) : (number line : ℕ) → Type 0 where
+  asked-text : {number line : ℕ} → FitsAt text number line → AskedFits text S TooFew number line
   -- 10. "The judged set is 2^R or more (line 0)."
-  set-beyond : 2 ^ rulesIn text ≤ S → JudgeFits text S lent 10 0
+  set-beyond : 2 ^ rulesIn text ≤ S → AskedFits text S TooFew 10 0
   -- 11. "The lent bytes are fewer than this answer's trace or list needs (line 0)."
-  trace-longer : {run : List ℕ} → Trace (systemIn text S) run → length lent < length run → JudgeFits text S lent 11 0
+  bytes-fewer : TooFew → AskedFits text S TooFew 11 0
+
+-- Judging a set needs one byte for each state of the trace,
+pub record TraceLonger (text : List ℕ) (S : ℕ) (lent : List ℕ) : Type 0 where
+  pub run : List ℕ
+  pub trace : Trace (systemIn text S) run
+  pub longer : length lent < length run
+
+abbrev pub JudgeFits : (text : List ℕ) (S : ℕ) (lent : List ℕ) (number line : ℕ) → Type 0
+JudgeFits text S lent = AskedFits text S (TraceLonger text S lent)
+
+-- and its reached states one byte for each state of the model.
+abbrev pub ReachedFits : (text : List ℕ) (S : ℕ) (lent : List ℕ) (number line : ℕ) → Type 0
+ReachedFits text S lent = AskedFits text S (length lent < statesIn text)
 
 -- Listing the cores or the cuts: 1 to 9, 11. Each set takes two bytes.
 pub data ListFits (which : WhichList) (text lent : List ℕ) : (number line : ℕ) → Type 0 where
@@ -60,6 +74,8 @@ pub record Refusals {A : Type 0} (Fits : ℕ → ℕ → Type 0) (refuse : ℕ �
 -- Every call, for a text, every set and all lent bytes.
 pub record Demand1 (text : List ℕ) : Type 0 where
   pub judge : (S : ℕ) (lent : List ℕ) → Refusals (JudgeFits text S lent) JudgeRefused judgeParts lent (judgeAnswer text S lent) (judgeBytes text S lent)
+  pub reached : (S : ℕ) (lent : List ℕ)
+      → Refusals (ReachedFits text S lent) ReachedRefused reachedParts lent (reachedAnswer text S lent) (reachedBytes text S lent)
   pub list : (which : WhichList) (lent : List ℕ)
       → Refusals (ListFits which text lent) ListRefused listParts lent (listAnswer which text lent) (listBytes which text lent)
   pub kind : (kind : Kind) → Refusals (FitsAt text) SetRefused setParts [] (kindAnswer kind text) []
@@ -75,6 +91,8 @@ pub record HostRefusals (Fits : ℕ → ℕ → Type 0) (lent : List ℕ) (x : �
 
 pub record HostDemand1 (text : List ℕ) : Type 0 where
   pub judge : (S : ℕ) (lent : List ℕ) → HostRefusals (JudgeFits text S lent) lent (packed (judgeParts (judgeAnswer text S lent))) (judgeBytes text S lent)
+  pub reached : (S : ℕ) (lent : List ℕ)
+      → HostRefusals (ReachedFits text S lent) lent (packed (reachedParts (reachedAnswer text S lent))) (reachedBytes text S lent)
   pub list : (which : WhichList) (lent : List ℕ)
       → HostRefusals (ListFits which text lent) lent (packed (listParts (listAnswer which text lent))) (listBytes which text lent)
   pub kind : (kind : Kind) → HostRefusals (FitsAt text) [] (packed (setParts (kindAnswer kind text))) []

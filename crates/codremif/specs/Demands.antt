@@ -1,5 +1,5 @@
 -- The demands of the mission, as theorems about what exactly the calls answer and write. Nothing is assumed.
--- To believe them, read these files below crates/ in this order (lines without imports and blank lines, 1,434 in all). What is proved of their
+-- To believe them, read these files below crates/ in this order (lines without imports and blank lines, 1,581 in all). What is proved of their
 -- definitions stands in `Laws` and need not be read, and neither need the functions that compute (the reading of a text, the verdict, the lists):
 -- the theorems say what they give.
 --   a number as a set of rules or of letters           sets/specs/Bit                8
@@ -13,6 +13,11 @@
 --   when a text is refused: the numbers 1 to 9         models/specs/Refusals       106
 --   the reading answers with the first that fits       models/specs/Refused         29
 --   runs, reached, holds, the trace                    systems/specs/System         51
+--   how many numbers below a bound pass a test         systems/specs/Count           6
+--   and 1 for one that passes, 0 for one that does not sets/specs/Gathered          11
+--   a list given entry by entry                        sets/specs/Tabulated          6
+--   the collecting of the reached states               searches/specs/Search        45
+--   what is to hold of it, for any system              searches/specs/Collecting    14
 --   the transition system of a model and a set         semantics/specs/Meaning      34
 --   parts, sharing a rule, the order of a list         sets/specs/Sets              30
 --   cores and cuts of any judgement                    sets/specs/Cores             33
@@ -23,17 +28,18 @@
 --   what a set keeps of a list                         sets/specs/Kept               7
 --   a model that is changed in rules or properties     models/specs/Changed         17
 --   which list is meant, and which kind of rules       sorting/specs/Which          13
---   what each call answers and writes                  calls/specs/Answers          91
+--   what each call answers and writes                  calls/specs/Answers         117
 --   a list in bytes, and the first set that fits       lookup/specs/Search          29
 --   where a part of a slice lies                       slices/specs/Address         11
 --   what two lists say of a set, and the witness       lookup/specs/Suffices        54
---   an answer as one 64-bit number                     codremif/specs/Packing       59
---   demand 1 for a text                                codremif/specs/Demand1       53
+--   an answer as one 64-bit number                     codremif/specs/Packing       63
+--   demand 1 for a text                                codremif/specs/Demand1       67
 --   demand 2 for a text                                codremif/specs/Demand2       16
 --   demand 3 for a text                                codremif/specs/Demand3       89
 --   rules that nobody relies on, for a text            codremif/specs/Relied        68
 --   the quick answer, for any lists and for a text's   codremif/specs/Suffices      64
 --   several properties together, for a text            codremif/specs/Properties    51
+--   the reached states of a set, for a text            codremif/specs/Reached       21
 --   the starred examples                               codremif/specs/Examples     112
 use Prim.Native.Nat.{ℕ, _^_, _<_}
 use mathlib.Core.Path.{_≡_}
@@ -51,6 +57,7 @@ use Rattle.codremif.specs.Examples.{Case, table, Answered}
 use Rattle.codremif.specs.Relied.{Relied}
 use Rattle.codremif.specs.Suffices.{QuickAnswer, textByAnswers, textByHosts}
 use Rattle.codremif.specs.Properties.{SeveralProperties}
+use Rattle.codremif.specs.Reached.{EverythingReached}
 use Rattle.codremif.specs.Laws.Written.{written-system}
 use Rattle.codremif.specs.Laws.Demand1.{calls-meet-demand1, hosts-meet-demand1}
 use Rattle.codremif.specs.Laws.Demand2.{judging-meets-demand2}
@@ -59,6 +66,7 @@ use Rattle.codremif.specs.Laws.Demand3.{calls-meet-demand3, hosts-meet-d
 use Rattle.codremif.specs.Laws.Relied.{relied}
 use Rattle.codremif.specs.Laws.Suffices.{the-quick-answer}
 use Rattle.codremif.specs.Laws.Properties.{calls-together, hosts-together}
+use Rattle.codremif.specs.Laws.Reached.{everything-is-reached}
 
 -- A text that is written from a legal model means what the model means: the runs of each set of rules are the model's.
 pub meaning : (M : Described) → Legal M → (S : ℕ) → systemIn (writtenModel M) S ≡ systemOf M S
@@ -106,3 +114,8 @@ several-properties = calls-together
 -- The same of the exported calls, by their 64-bit answers and their lent bytes.
 pub several-properties-hosts : (text : List ℕ) → textOutcome text ≡ Accepted → SeveralProperties textByHosts text
 several-properties-hosts = hosts-together
+
+-- Stop when everything is reached: for every accepted text, every set of its rules and a lent byte for each state or more, which bytes the call writes,
+-- and how many pairs of states it tried.
+pub everything-reached : (text : List ℕ) → textOutcome text ≡ Accepted → EverythingReached text
+everything-reached = everything-is-reached

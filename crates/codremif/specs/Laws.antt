@@ -8,4 +8,5 @@ pub mod Demand3
 pub mod Relied
 pub mod Suffices
 pub mod Properties
+pub mod Reached
 pub mod Examples

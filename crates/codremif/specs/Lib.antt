@@ -8,5 +8,6 @@ pub mod Examples
 pub mod Relied
 pub mod Suffices
 pub mod Properties
+pub mod Reached
 pub mod Laws
 pub mod Demands

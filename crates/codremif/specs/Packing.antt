@@ -7,12 +7,14 @@ use Rattle.lookup.specs.declared.answer.SufficesAnswer.{SufficesAnswer}
 use Rattle.lookup.specs.declared.answer.SufficesAnswer.the-variants.{Refused as SufficesRefused, CoreInside, CutApart, Unlisted}
 use Rattle.calls.specs.declared.answers.JudgeAnswer.{JudgeAnswer}
 use Rattle.calls.specs.declared.answers.JudgeAnswer.the-variants.{Refused as JudgeRefused, Holds, Broken}
+use Rattle.calls.specs.declared.answers.ReachedAnswer.{ReachedAnswer}
+use Rattle.calls.specs.declared.answers.ReachedAnswer.the-variants.{Refused as ReachedRefused, Pairs}
 use Rattle.calls.specs.declared.answers.ListAnswer.{ListAnswer}
 use Rattle.calls.specs.declared.answers.ListAnswer.the-variants.{Refused as ListRefused, Count}
 use Rattle.calls.specs.declared.answers.SetAnswer.{SetAnswer}
 use Rattle.calls.specs.declared.answers.SetAnswer.the-variants.{Refused as SetRefused, Set}
 
--- `amount` is the trace's length, the number of sets, the set, or what two lists say; `holds` is the verdict, and that a listed core is inside.
+-- `amount` is the trace's length, the pairs tried, the number of sets, the set, or what two lists say; `holds` is the verdict, and that a listed core is inside.
 pub record Parts : Type 0 where
   pub number : ℕ
   pub line : ℕ
@@ -33,6 +35,11 @@ judgeParts (JudgeRefused number line) = refused number line
 judgeParts Holds = accepted 0 true
 judgeParts (Broken states) = accepted states false
 
+unfoldable pub reachedParts : ReachedAnswer → Parts
+unfolding accepted refused
+reachedParts (ReachedRefused number line) = refused number line
+reachedParts (Pairs pairs) = accepted pairs false
+
 unfoldable pub listParts : ListAnswer → Parts
 unfolding accepted refused
 listParts (ListRefused number line) = refused number line
@@ -51,7 +58,7 @@ sufficesParts (CoreInside place) = accepted 1 true
 sufficesParts (CutApart place) = accepted 2 false
 sufficesParts Unlisted = accepted 0 false
 
--- The number, plus 256 times the line, plus 65,536 times the length, count or set, plus 2^40 for a verdict that holds.
+-- The number, plus 256 times the line, plus 65,536 times the length, pairs, count or set, plus 2^40 for a verdict that holds.
 unfoldable pub packed : Parts → ℕ
 packed p = p .number + 256 * p .line + 65536 * p .amount + cond (p .holds) (2 ^ 40) 0
 

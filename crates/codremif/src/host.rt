@@ -3,8 +3,8 @@ ghost use mathlib.Core.Path.{_≡_};
 ghost use Rattle.sorting.specs.declared.which.WhichList.the-variants.{Cores, Cuts};
 ghost use Rattle.sorting.specs.declared.kinds.Kind.the-variants.{Must, May, Irrelevant};
 ghost use Rattle.lookup.specs.Suffices.{sufficesAnswer};
-ghost use Rattle.calls.specs.Answers.{judgeAnswer, judgeBytes, listAnswer, listBytes, kindAnswer};
-ghost use Rattle.codremif.specs.Packing.{judgeParts, listParts, setParts, sufficesParts, witnessPlace, packed, versionNumber};
+ghost use Rattle.calls.specs.Answers.{judgeAnswer, judgeBytes, reachedAnswer, reachedBytes, listAnswer, listBytes, kindAnswer};
+ghost use Rattle.codremif.specs.Packing.{judgeParts, reachedParts, listParts, setParts, sufficesParts, witnessPlace, packed, versionNumber};
 use sorting::kinds::Kind;
 use sorting::which::WhichList;
 
@@ -14,6 +14,15 @@ pub extern "C" fn codremif_judge(text: &[u8], set: u32, trace: &mut [u8]) -> u64
     ensures { λ _. ⌜ now (trace .exit) ≡ judgeBytes (now (text .entry)) set (now (trace .entry)) ⌝ }
 {
     crate::packing::pack_judge(calls::judging::judge(text, set, trace))
+}
+
+// Which states a set can reach: a byte for each state, and how many pairs of states were tried.
+#[no_mangle]
+pub extern "C" fn codremif_reached(text: &[u8], set: u32, marks: &mut [u8]) -> u64
+    ensures { λ r. ⌜ r ≡ packed (reachedParts (reachedAnswer (now (text .entry)) set (now (marks .entry)))) ⌝ }
+    ensures { λ _. ⌜ now (marks .exit) ≡ reachedBytes (now (text .entry)) set (now (marks .entry)) ⌝ }
+{
+    crate::packing::pack_reached(calls::reaching::reach(text, set, marks))
 }
 
 #[no_mangle]
@@ -71,7 +80,7 @@ pub extern "C" fn codremif_witness(set: u32, cores: &[u8], cuts: &[u8]) -> u64
 // Which version of the part this is, as CODREMIF_VERSION of the header says it.
 #[no_mangle]
 pub extern "C" fn codremif_version() -> u64
-    ensures { λ r. ⌜ r ≡ versionNumber 1 3 0 ⌝ }
+    ensures { λ r. ⌜ r ≡ versionNumber 1 4 0 ⌝ }
 {
-    1003000
+    1004000
 }

@@ -1,8 +1,9 @@
 // An answer as the one 64-bit number that a C host gets.
 ghost use mathlib.Core.Path.{_≡_};
-ghost use Rattle.codremif.specs.Packing.{InRange, judgeParts, listParts, setParts, sufficesParts, witnessPlace, packed};
+ghost use Rattle.codremif.specs.Packing.{InRange, judgeParts, reachedParts, listParts, setParts, sufficesParts, witnessPlace, packed};
 use calls::answers::JudgeAnswer;
 use calls::answers::ListAnswer;
+use calls::answers::ReachedAnswer;
 use calls::answers::SetAnswer;
 use lookup::answer::SufficesAnswer;
 
@@ -23,6 +24,16 @@ pub(crate) fn pack_judge(a: JudgeAnswer) -> u64
         JudgeAnswer::Refused(number, line) => pack(number, line, 0, false),
         JudgeAnswer::Holds => pack(0, 0, 0, true),
         JudgeAnswer::Broken(states) => pack(0, 0, states, false),
+    }
+}
+
+pub(crate) fn pack_reached(a: ReachedAnswer) -> u64
+    requires { ⌜ InRange (reachedParts a) ⌝ }
+    ensures { λ r. ⌜ r ≡ packed (reachedParts a) ⌝ }
+{
+    match a {
+        ReachedAnswer::Refused(number, line) => pack(number, line, 0, false),
+        ReachedAnswer::Pairs(pairs) => pack(0, 0, pairs, false),
     }
 }
 

@@ -15,22 +15,29 @@ fn room_in(s: &[u8]) -> usize
     if n < 8 { n as usize } else { 8 }
 }
 
-// The eight lent bytes held 201 to 208 before, so that a byte shown from another place is seen.
-fn judge(text: &[u8], room: usize, set: u32)
-    requires { ⌜ room ≤ 8 ⌝ }
-{
-    let mut lent = [201u8, 202, 203, 204, 205, 206, 207, 208];
-    let answer = calls::judging::judge(text, set, &mut lent[..room]);
-    shown::verdict(answer);
-    shown::lent_bytes(lent);
+// What a call that writes to lent bytes answers.
+fn answer(call: &[u8], text: &[u8], set: u32, lent: &mut [u8]) {
+    if slices::parts::same_bytes(call, b"judge") {
+        return shown::verdict(calls::judging::judge(text, set, lent));
+    }
+    if slices::parts::same_bytes(call, b"reached") {
+        return shown::pairs(calls::reaching::reach(text, set, lent));
+    }
+    if slices::parts::same_bytes(call, b"cores") {
+        return shown::count(calls::listing::list(text, WhichList::Cores, lent));
+    }
+    if slices::parts::same_bytes(call, b"cuts") {
+        return shown::count(calls::listing::list(text, WhichList::Cuts, lent));
+    }
+    io::write_all(STDOUT_FILENO, b"no such call");
 }
 
-fn list(text: &[u8], which: WhichList, room: usize)
+// The eight lent bytes held 201 to 208 before, so that a byte shown from another place is seen.
+fn lend(call: &[u8], text: &[u8], room: usize, set: u32)
     requires { ⌜ room ≤ 8 ⌝ }
 {
     let mut lent = [201u8, 202, 203, 204, 205, 206, 207, 208];
-    let answer = calls::listing::list(text, which, &mut lent[..room]);
-    shown::count(answer);
+    answer(call, text, set, &mut lent[..room]);
     shown::lent_bytes(lent);
 }
 
@@ -42,11 +49,13 @@ fn kinds(text: &[u8]) {
 
 // What every call answers for a text, and for one of its sets.
 fn every_call(text: &[u8], set: u32) {
-    judge(text, 8, set);
+    lend(b"judge", text, 8, set);
+    io::write_all(STDOUT_FILENO, b"\nits reached states: ");
+    lend(b"reached", text, 8, set);
     io::write_all(STDOUT_FILENO, b"\nits cores: ");
-    list(text, WhichList::Cores, 8);
+    lend(b"cores", text, 8, set);
     io::write_all(STDOUT_FILENO, b"\nits cuts: ");
-    list(text, WhichList::Cuts, 8);
+    lend(b"cuts", text, 8, set);
     io::write_all(STDOUT_FILENO, b"\nits rules: ");
     kinds(text);
 }
@@ -72,15 +81,6 @@ fn look_up_in_two(cores: &[u8], line: &[u8], set: u32) {
 fn ask(call: &[u8], text: &[u8], room: usize, set: u32)
     requires { ⌜ room ≤ 8 ⌝ }
 {
-    if slices::parts::same_bytes(call, b"judge") {
-        return judge(text, room, set);
-    }
-    if slices::parts::same_bytes(call, b"cores") {
-        return list(text, WhichList::Cores, room);
-    }
-    if slices::parts::same_bytes(call, b"cuts") {
-        return list(text, WhichList::Cuts, room);
-    }
     if slices::parts::same_bytes(call, b"kinds") {
         return kinds(text);
     }
@@ -92,7 +92,7 @@ fn ask(call: &[u8], text: &[u8], room: usize, set: u32)
         let outcome = reading.outcome;
         return shown::outcome(outcome);
     }
-    io::write_all(STDOUT_FILENO, b"no such call");
+    lend(call, text, room, set);
 }
 
 // The call of a line, where the bytes of field 2 are told already.

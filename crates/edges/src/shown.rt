@@ -1,6 +1,7 @@
 // How an answer is written, and the lent bytes after a call.
 use calls::answers::JudgeAnswer;
 use calls::answers::ListAnswer;
+use calls::answers::ReachedAnswer;
 use calls::answers::SetAnswer;
 use libc::STDOUT_FILENO;
 use lookup::answer::SufficesAnswer;
@@ -32,6 +33,13 @@ pub(crate) fn verdict(answer: JudgeAnswer) {
             io::write_all(STDOUT_FILENO, b"holds");
         }
         JudgeAnswer::Broken(states) => put_number(b"broken states=", states as u64),
+    }
+}
+
+pub(crate) fn pairs(answer: ReachedAnswer) {
+    match answer {
+        ReachedAnswer::Refused(number, line) => put_refusal(number, line),
+        ReachedAnswer::Pairs(pairs) => put_number(b"pairs=", pairs as u64),
     }
 }
 

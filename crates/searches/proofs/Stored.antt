@@ -1,11 +1,12 @@
--- What the arrays of a search hold, step by step: the run at each place, what a mark more changes, and that a row of states tried one by one
--- stores the runs of `tryRow`. From the definitions and the laws of lists, of counts and of the search. Assumes nothing.
-use Prim.Native.Nat.{ℕ, zero, suc, _+_, _≤_, _<_}
+-- What the arrays of a search hold, step by step: the run at each place, what a mark more changes, and that the start states and a row of pairs, tried
+-- one by one, store the runs and the pairs of `startsBelow` and `tryRow`. From the definitions and the laws of lists, of counts and of the search. Assumes nothing.
+use Prim.Native.Nat.{ℕ, zero, suc, _+_, _*_, _≤_, _<_}
 use mathlib.Core.Path.{_≡_, refl, sym, ap, ap₂, subst, _∙_}
-use mathlib.Core.Logic.{⊎-elim}
+use mathlib.Core.Logic.{_≢_, ⊎-elim}
 use mathlib.Core.Bool.{Bool, true, false, not, cond, _&&_, _||_, or-false, and-eq-true-iff}
 use mathlib.Core.List.{List, [], _∷_, _++_}
 use mathlib.Mathlib.Data.Bool.Basic.{dichotomy, or-inr}
+use native.Mathlib.Nat.{mul-le-mul}
 use native.Mathlib.Omega.{arith}
 use native.Mathlib.Numerals.{add-one}
 use borrow.Author.Count.{below-more}
@@ -18,13 +19,14 @@ use Rattle.sets.specs.Laws.Tabulated.{tabulated}
 use Rattle.searches.specs.declared.runs.Reached.{Reached}
 use Rattle.searches.specs.declared.runs.Runs.{Runs}
 use Rattle.systems.specs.Count.{count}
-use Rattle.systems.specs.Laws.Count.{count-le, count-none, count-more, count-one-more}
+use Rattle.systems.specs.Laws.Count.{count-le, count-less, count-none, count-one-more}
 use Rattle.systems.specs.System.{System, last}
 use Rattle.systems.specs.Laws.Walks.{last-snoc, walk-last}
-use Rattle.searches.specs.Search.{isMarked, tryState, tryRow, explored, search}
-use Rattle.searches.specs.Laws.SearchSteps.{isMarked-nil, isMarked-snoc, tryRow-zero, tryRow-next, explored-next}
+use Rattle.searches.specs.Search.{Collection, isMarked, tryState, startsBelow, tryRow, explored, search}
+use Rattle.searches.specs.Laws.SearchSteps.{isMarked-nil, isMarked-snoc, startsBelow-zero, startsBelow-next, next-unmarked, tryPair-tried, tryRow-zero, tryRow-next, tryRow-stays, explored-next, explored-full}
 use Rattle.searches.specs.Laws.Search.{explored-collected, explored-short, search-ended}
-use Rattle.searches.specs.Stored.{runsTo, runsIn, withRun, Sound, Stores, reachedOf}
+use Rattle.searches.specs.Laws.Collecting.{explored-pairs}
+use Rattle.searches.specs.Stored.{runsTo, runsIn, collectionIn, withRun, Sound, Stores, reachedOf}
 
 -- ---- the run at a place
 
@@ -84,13 +86,7 @@ module _ {x : Runs} (s : Sound x) where
   sound-few = omega (arith, s .counted, count-le 128 (λ u. getD (x .marks) u false))
 
   pub sound-room : (t : ℕ) → t < 128 → getD (x .marks) t false ≡ false → x .count < 128
-  sound-room t h e =
-      omega (
-        arith,
-        s .counted,
-        count-more (λ u. getD (x .marks) u false) (λ _. true) (λ _ _. refl) 128 t h e refl,
-        count-le 128 (λ _. true),
-      )
+  sound-room t h e = omega (arith, s .counted, count-less (λ u. getD (x .marks) u false) 128 t h e)
 
   pub sound-length : length (runsIn x) ≡ x .count
   unfolding runsIn
@@ -130,10 +126,11 @@ module _ {x : Runs} (s : Sound x) where
           ∙ sym (ap (λ b. getD (x .marks) u false || b) e ∙ or-false (getD (x .marks) u false))
 
   sound-more : (parent t : ℕ) → t < 128 → getD (x .marks) t false ≡ false → (parent < 128 → parent < x .count)
-      → Stores (runsIn x ++ ((getD (runsIn x) parent [] ++ (t ∷ [])) ∷ [])) (withRun x parent t)
+      → Stores (record { runs = runsIn x ++ ((getD (runsIn x) parent [] ++ (t ∷ [])) ∷ []); pairs = x .pairs }) (withRun x parent t)
   unfolding withRun
   sound-more parent t h unmarked within = record {
     runs = more-runs parent t room;
+    pairs = refl;
     sound = record {
       marks = length-set (x .marks) t true ∙ s .marks;
       order = length-set (x .order) (x .count) t ∙ s .order;
@@ -166,7 +163,7 @@ module _ {x : Runs} (s : Sound x) where
 
 -- Before the first run.
 unfoldable pub noRuns : Runs
-noRuns = record { marks = replicate 128 false; count = 0; order = replicate 128 0; parents = replicate 128 0 }
+noRuns = record { marks = replicate 128 false; count = 0; order = replicate 128 0; parents = replicate 128 0; pairs = 0 }
 
 pub getD-repeat : {A : Type 0} (n k : ℕ) (a : A) → getD (replicate n a) k a ≡ a
 getD-repeat zero k a = refl
@@ -187,53 +184,33 @@ sound-none = record {
 
 -- ---- a row of states
 
--- The states below t have been tried behind the run at place `parent` of q, which still stands there.
-pub record RowStored (next : ℕ → Bool) (parent : ℕ) (q : List (List ℕ)) (t : ℕ) (y : Runs) : Type 0 where
-  pub stores : Stores (tryRow next (getD q parent []) t q) y
+-- y holds the collection c, and what stood at place `parent` of q still stands there.
+pub record RowStored (parent : ℕ) (q : List (List ℕ)) (c : Collection) (y : Runs) : Type 0 where
+  pub stores : Stores c y
   pub behind : getD (runsIn y) parent [] ≡ getD q parent []
   pub within : parent < 128 → parent < y .count
 
-pub row-none : {next : ℕ → Bool} {parent : ℕ} {x : Runs} → Sound x → (parent < 128 → parent < x .count) → RowStored next parent (runsIn x) 0 x
-row-none {next} {parent} {x} s within = record {
-  stores = record { runs = sym (tryRow-zero next (getD (runsIn x) parent []) (runsIn x)); sound = s };
-  behind = refl;
-  within = within;
-}
+pub row-none : {parent : ℕ} {x : Runs} → Sound x → (parent < 128 → parent < x .count) → RowStored parent (runsIn x) (collectionIn x) x
+unfolding collectionIn
+row-none s within = record { stores = record { runs = refl; pairs = refl; sound = s }; behind = refl; within = within }
 
-pub row-start : {next : ℕ → Bool} → RowStored next 128 [] 0 noRuns
-unfolding noRuns runsIn runsTo
-row-start = row-none sound-none (λ h. absurd (omega arith))
+module _ {parent : ℕ} {q : List (List ℕ)} {c : Collection} {y : Runs} (w : RowStored parent q c y) (next : ℕ → Bool) (t : ℕ) where
+  -- State t is tried behind the run at place `parent`.
+  unfoldable pub tried : Collection
+  tried = record { runs = tryState next (getD q parent []) t (c .runs); pairs = c .pairs }
 
--- While the first states of all are tried, the next ones have no mark.
-next-unmarked : (next : ℕ → Bool) (r : List ℕ) (n u : ℕ) → n ≤ u → isMarked (tryRow next r n []) u ≡ false
-unfolding tryRow tryState
-next-unmarked next r zero u h = isMarked-nil u
-next-unmarked next r (suc n) u h = go (next n && not (isMarked p n)) (next-unmarked next r n u (omega arith))
-  where
-    p : List (List ℕ)
-    p = tryRow next r n []
-
-    go : (b : Bool) → isMarked p u ≡ false → isMarked (cond b (p ++ ((r ++ (n ∷ [])) ∷ [])) p) u ≡ false
-    go true e = isMarked-snoc p (r ++ (n ∷ [])) u ∙ ap₂ _||_ e (ap (λ v. eqb v u) (last-snoc r n) ∙ ne-eqb n u (λ e. omega arith))
-    go false e = e
-
-pub row-unmarked : {next : ℕ → Bool} {parent t : ℕ} {y : Runs} → RowStored next parent [] t y → getD (y .marks) t false ≡ false
-row-unmarked {next} {parent} {t} w =
-    w .stores .sound .marked t ∙ ap (λ q. isMarked q t) (w .stores .runs) ∙ next-unmarked next (getD [] parent []) t t (omega arith)
-
-module _ {next : ℕ → Bool} {parent : ℕ} {q : List (List ℕ)} {t : ℕ} {y : Runs} (w : RowStored next parent q t y) where
   tested : (b : Bool) → (next t && not (getD (y .marks) t false)) ≡ b
-      → tryRow next (getD q parent []) (t + 1) q ≡ cond b (runsIn y ++ ((getD (runsIn y) parent [] ++ (t ∷ [])) ∷ [])) (runsIn y)
+      → tryState next (getD q parent []) t (c .runs) ≡ cond b (runsIn y ++ ((getD (runsIn y) parent [] ++ (t ∷ [])) ∷ [])) (runsIn y)
   unfolding tryState
   tested b e =
-      tryRow-next next (getD q parent []) t q
-      ∙ ap₂ (λ p r. cond (next t && not (isMarked p t)) (p ++ ((r ++ (t ∷ [])) ∷ [])) p) (sym (w .stores .runs)) (sym (w .behind))
-      ∙ ap (λ c. cond c (runsIn y ++ ((getD (runsIn y) parent [] ++ (t ∷ [])) ∷ [])) (runsIn y))
+      ap₂ (λ p r. cond (next t && not (isMarked p t)) (p ++ ((r ++ (t ∷ [])) ∷ [])) p) (sym (w .stores .runs)) (sym (w .behind))
+      ∙ ap (λ b. cond b (runsIn y ++ ((getD (runsIn y) parent [] ++ (t ∷ [])) ∷ [])) (runsIn y))
       (ap (λ m. next t && not m) (sym (w .stores .sound .marked t)) ∙ e)
 
-  pub row-passed : (next t && not (getD (y .marks) t false)) ≡ false → RowStored next parent q (t + 1) y
+  pub row-passed : (next t && not (getD (y .marks) t false)) ≡ false → RowStored parent q tried y
+  unfolding tried
   row-passed e = record {
-    stores = record { runs = sym (tested false e); sound = w .stores .sound };
+    stores = record { runs = sym (tested false e); pairs = w .stores .pairs; sound = w .stores .sound };
     behind = w .behind;
     within = w .within;
   }
@@ -245,10 +222,10 @@ module _ {next : ℕ → Bool} {parent : ℕ} {q : List (List ℕ)} {t : ℕ} {y
   pub row-room : t < 128 → (next t && not (getD (y .marks) t false)) ≡ true → y .count < 128
   row-room h e = sound-room (w .stores .sound) t h (unmarked e)
 
-  pub row-taken : t < 128 → (next t && not (getD (y .marks) t false)) ≡ true → RowStored next parent q (t + 1) (withRun y parent t)
-  unfolding withRun
+  pub row-taken : t < 128 → (next t && not (getD (y .marks) t false)) ≡ true → RowStored parent q tried (withRun y parent t)
+  unfolding tried withRun
   row-taken h e = record {
-    stores = record { runs = m .runs ∙ sym (tested true e); sound = m .sound };
+    stores = record { runs = m .runs ∙ sym (tested true e); pairs = w .stores .pairs; sound = m .sound };
     behind = ap (λ p. getD p parent []) (m .runs)
         ∙ same-place (runsIn y) (getD (runsIn y) parent [] ++ (t ∷ [])) parent
         (omega (arith, sound-length s, row-room h e)) (λ g. omega (arith, sound-length s, w .within g))
@@ -259,21 +236,118 @@ module _ {next : ℕ → Bool} {parent : ℕ} {q : List (List ℕ)} {t : ℕ} {y
       s : Sound y
       s = w .stores .sound
 
-      m : Stores (runsIn y ++ ((getD (runsIn y) parent [] ++ (t ∷ [])) ∷ [])) (withRun y parent t)
+      m : Stores (record { runs = runsIn y ++ ((getD (runsIn y) parent [] ++ (t ∷ [])) ∷ []); pairs = y .pairs }) (withRun y parent t)
       m = sound-more s parent t h (unmarked e) (w .within)
 
--- While the first states of all are tried, no test of a mark is needed.
-module _ {next : ℕ → Bool} {parent t : ℕ} {y : Runs} (w : RowStored next parent [] t y) where
-  pub first-passed : next t ≡ false → RowStored next parent [] (t + 1) y
-  first-passed e = row-passed w (ap (λ b. b && not (getD (y .marks) t false)) e)
+-- ---- the start states
 
-  pub first-taken : t < 128 → next t ≡ true → RowStored next parent [] (t + 1) (withRun y parent t)
-  first-taken h e = row-taken w h (ap₂ (λ b m. b && not m) e (row-unmarked w))
+-- The start states below s have been marked.
+pub record StartsStored (start : ℕ → Bool) (s : ℕ) (y : Runs) : Type 0 where
+  pub row : RowStored 128 [] (record { runs = startsBelow start s; pairs = 0 }) y
+
+pub starts-none : {start : ℕ → Bool} → StartsStored start 0 noRuns
+unfolding noRuns runsIn runsTo
+starts-none {start} = record {
+  row = record {
+    stores = record { runs = sym (startsBelow-zero start); pairs = refl; sound = sound-none };
+    behind = refl;
+    within = λ h. absurd (omega arith);
+  };
+}
+
+module _ {start : ℕ → Bool} {s : ℕ} {y : Runs} (w : StartsStored start s y) where
+  -- The next one has no mark yet,
+  pub starts-unmarked : getD (y .marks) s false ≡ false
+  starts-unmarked =
+      w .row .stores .sound .marked s ∙ ap (λ q. isMarked q s) (w .row .stores .runs) ∙ next-unmarked start s s (omega arith)
+
+  -- so no test of a mark is needed.
+  pub starts-passed : start s ≡ false → StartsStored start (s + 1) y
+  unfolding tried
+  starts-passed e = record {
+    row = rw (startsBelow-next start s) (row-passed (w .row) start s (ap (λ b. b && not (getD (y .marks) s false)) e));
+  }
+
+  pub starts-taken : s < 128 → start s ≡ true → StartsStored start (s + 1) (withRun y 128 s)
+  unfolding tried
+  starts-taken h e = record {
+    row = rw (startsBelow-next start s) (row-taken (w .row) start s h (ap₂ (λ b m. b && not m) e starts-unmarked));
+  }
+
+-- ---- the pairs of a row
+
+-- The last state of the run at place i of x has been tried as the first of a pair with the states below t.
+pub record PairsStored (size : ℕ) (next : ℕ → Bool) (i : ℕ) (x : Runs) (t : ℕ) (y : Runs) : Type 0 where
+  pub row : RowStored i (runsIn x) (tryRow size next (getD (runsIn x) i []) t (collectionIn x)) y
+
+pub pairs-none : {size : ℕ} {next : ℕ → Bool} {i : ℕ} {x : Runs} → Sound x → i < x .count → PairsStored size next i x 0 x
+pairs-none {size} {next} {i} {x} s h = record { row = rw (tryRow-zero size next (getD (runsIn x) i []) (collectionIn x)) (row-none s (λ _. h)) }
+
+-- One pair more is counted.
+unfoldable pub counted : Runs → Runs
+counted y = record { marks = y .marks; count = y .count; order = y .order; parents = y .parents; pairs = y .pairs + 1 }
+
+module _ {size : ℕ} {next : ℕ → Bool} {i : ℕ} {x : Runs} {t : ℕ} {y : Runs} (w : PairsStored size next i x t y) where
+  c : Collection
+  c = tryRow size next (getD (runsIn x) i []) t (collectionIn x)
+
+  stored-count : length (c .runs) ≡ y .count
+  unfolding c
+  stored-count = ap length (sym (w .row .stores .runs)) ∙ sound-length (w .row .stores .sound)
+
+  -- Where every state is marked, the row has ended.
+  pub pairs-ended : y .count ≡ size → t ≤ size → Stores (tryRow size next (getD (runsIn x) i []) size (collectionIn x)) y
+  unfolding c
+  pairs-ended e h = rw (tryRow-stays size next (getD (runsIn x) i []) t (collectionIn x) (stored-count ∙ e) size h) (w .row .stores)
+
+  -- Where not, the next pair is counted,
+  pair-counted : RowStored i (runsIn x) (record { runs = c .runs; pairs = c .pairs + 1 }) (counted y)
+  unfolding c counted runsIn
+  pair-counted = record {
+    stores = record {
+      runs = w .row .stores .runs;
+      pairs = ap (λ n. n + 1) (w .row .stores .pairs);
+      sound = let s = w .row .stores .sound in record {
+        marks = s .marks;
+        order = s .order;
+        parents = s .parents;
+        marked = s .marked;
+        counted = s .counted;
+        states = s .states;
+        earlier = s .earlier;
+      };
+    };
+    behind = w .row .behind;
+    within = w .row .within;
+  }
+
+  next-pair : y .count ≢ size
+      → tryRow size next (getD (runsIn x) i []) (t + 1) (collectionIn x)
+      ≡ record { runs = tryState next (getD (runsIn x) i []) t (c .runs); pairs = c .pairs + 1 }
+  unfolding c
+  next-pair h =
+      tryRow-next size next (getD (runsIn x) i []) t (collectionIn x)
+      ∙ tryPair-tried size next (getD (runsIn x) i []) t c (λ e. h (sym stored-count ∙ e))
+
+  -- and the state is passed over,
+  pub pair-passed : y .count ≢ size → (next t && not (getD (y .marks) t false)) ≡ false → PairsStored size next i x (t + 1) (counted y)
+  unfolding c counted tried
+  pair-passed h e = record { row = rw (next-pair h) (row-passed pair-counted next t e) }
+
+  pub pair-room : t < 128 → (next t && not (getD (y .marks) t false)) ≡ true → y .count < 128
+  unfolding counted
+  pair-room = row-room pair-counted next t
+
+  -- or marked.
+  pub pair-taken : t < 128 → y .count ≢ size → (next t && not (getD (y .marks) t false)) ≡ true
+      → PairsStored size next i x (t + 1) (withRun (counted y) i t)
+  unfolding c counted tried
+  pair-taken b h e = record { row = rw (next-pair h) (row-taken pair-counted next t b e) }
 
 -- ---- the whole search
 
 module _ (M : System) (i : ℕ) {x : Runs} (a : Stores (explored M i) x) where
-  stored-length : length (explored M i) ≡ x .count
+  stored-length : length (explored M i .runs) ≡ x .count
   stored-length = ap length (sym (a .runs)) ∙ sound-length (a .sound)
 
   pub stores-short : x .count ≤ M .size
@@ -283,27 +357,39 @@ module _ (M : System) (i : ℕ) {x : Runs} (a : Stores (explored M i) x) where
   pub stores-state : (k : ℕ) → k < x .count → getD (x .order) k 0 < M .size
   stores-state k h =
       subst (λ s. s < M .size) (ap (λ q. last (getD q k [])) (sym (a .runs)) ∙ sound-last (a .sound) k h)
-      (walk-last (getD (explored M i) k []) (explored-collected M i .runs k (omega (arith, stored-length))))
+      (walk-last (getD (explored M i .runs) k []) (explored-collected M i .runs k (omega (arith, stored-length))))
+
+  -- No more pairs have been tried than there are.
+  pub stores-tried : M .size ≤ 128 → i ≤ 128 → x .pairs ≤ 128 * 128
+  stores-tried h b = omega (arith, a .pairs, explored-pairs M i, mul-le-mul h b)
 
   -- Where the run at place i has been tried with every state, one run more has been explored.
   pub stores-next : {y : Runs} → i < x .count
-      → Stores (tryRow (M .step (getD (x .order) i 0)) (getD (runsIn x) i []) (M .size) (runsIn x)) y → Stores (explored M (i + 1)) y
-  stores-next h b = record { runs = b .runs ∙ tried ∙ sym (explored-next M i (omega (arith, stored-length))); sound = b .sound }
+      → Stores (tryRow (M .size) (M .step (getD (x .order) i 0)) (getD (runsIn x) i []) (M .size) (collectionIn x)) y → Stores (explored M (i + 1)) y
+  unfolding collectionIn
+  stores-next {y} h b = rw (explored-next M i (omega (arith, stored-length)), ← last-is, ← a .runs, ← a .pairs) b
     where
-      tried : tryRow (M .step (getD (x .order) i 0)) (getD (runsIn x) i []) (M .size) (runsIn x)
-          ≡ tryRow (M .step (last (getD (explored M i) i []))) (getD (explored M i) i []) (M .size) (explored M i)
-      tried = rw (← sound-last (a .sound) i h, a .runs)
+      last-is : getD (x .order) i 0 ≡ last (getD (explored M i .runs) i [])
+      last-is = sym (sound-last (a .sound) i h) ∙ ap (λ q. last (getD q i [])) (a .runs)
 
-  -- Where every run has been tried, the search has ended.
+  -- Where every run has been tried, the search has ended;
   pub stores-all : x .count ≤ i → Stores (search M) x
-  stores-all h = record { runs = a .runs ∙ sym (search-ended M i (omega (arith, stored-length))); sound = a .sound }
+  stores-all h = rw (search-ended M i (omega (arith, stored-length))) a
 
--- The marks and the count of the whole search are the reached states.
-pub stored-reached : (M : System) (x : Runs) → Stores (search M) x → _≡_ {A = Reached} (record { marks = x .marks; count = x .count }) (reachedOf M)
+  -- and where every state is marked.
+  pub stores-full : x .count ≡ M .size → i ≤ M .size → Stores (search M) x
+  unfolding search
+  stores-full e h = rw (explored-full M i (stored-length ∙ e) (M .size) h) a
+
+-- The marks, the count and the pairs of the whole search are its answer.
+pub stored-reached : (M : System) (x : Runs) → Stores (search M) x
+    → _≡_ {A = Reached} (record { marks = x .marks; count = x .count; pairs = x .pairs }) (reachedOf M)
 unfolding reachedOf
-stored-reached M x a = ap₂ (λ m n. record { marks = m; count = n }) marks (sym (ap length (sym (a .runs)) ∙ sound-length (a .sound)))
+stored-reached M x a =
+    ap₂ (λ m n. record { marks = m; count = n; pairs = x .pairs }) marks (sym (ap length (sym (a .runs)) ∙ sound-length (a .sound)))
+    ∙ ap (λ n. record { marks = tabulate 128 (isMarked (search M .runs)); count = length (search M .runs); pairs = n }) (a .pairs)
   where
-    marks : x .marks ≡ tabulate 128 (isMarked (search M))
+    marks : x .marks ≡ tabulate 128 (isMarked (search M .runs))
     marks =
-        tabulated 128 (isMarked (search M)) false (x .marks) (a .sound .marks)
+        tabulated 128 (isMarked (search M .runs)) false (x .marks) (a .sound .marks)
         (λ s _. a .sound .marked s ∙ ap (λ q. isMarked q s) (a .runs))

@@ -1,39 +1,59 @@
--- The search that collects the reached states: runs are found in the order in which their last states are marked.
--- The start states come first, by number; then each run found, in that order, is tried once with every state by number.
--- Assumes nothing: these are definitions.
-use Prim.Native.Nat.{ℕ, zero, suc}
+-- The search that collects the reached states, as document 02 tells it ("Stop when everything is reached"): the start states are marked first, by
+-- number; then each marked state, in the order of marking, is tried once as the first of a pair with every state by number, marked or not. It ends
+-- as soon as every state is marked. Each mark has its run, so the marked states are the last states of the runs. Assumes nothing: these are definitions.
+use Prim.Native.Nat.{ℕ, zero, suc, _+_}
 use mathlib.Core.Bool.{Bool, false, not, cond, _&&_, _||_}
 use mathlib.Core.List.{List, [], _∷_, _++_}
 use lib.Dec.{eqb, ltb}
 use lib.ListN.{length, getD}
 use Rattle.systems.specs.System.{System, last}
 
--- State s is marked: one of the runs found ends in it.
+-- What has been collected: the runs, in the order in which their last states were marked, and how many pairs have been tried.
+pub record Collection : Type 0 where
+  pub runs : List (List ℕ)
+  pub pairs : ℕ
+
+-- State s is marked: one of the runs ends in it.
 unfoldable pub isMarked : List (List ℕ) → ℕ → Bool
 unfolding last
 isMarked [] s = false
 isMarked (r ∷ q) s = eqb (last r) s || isMarked q s
 
--- State t is tried behind the run r: where it passes the test and is not marked yet, the longer run is found.
+-- State t behind the run r: where it passes the test and is not marked yet, it is marked, by the longer run.
 unfoldable pub tryState : (ℕ → Bool) → List ℕ → ℕ → List (List ℕ) → List (List ℕ)
 unfolding isMarked
 tryState next r t q = cond (next t && not (isMarked q t)) (q ++ ((r ++ (t ∷ [])) ∷ [])) q
 
--- The states below n are tried, by number.
-unfoldable pub tryRow : (ℕ → Bool) → List ℕ → ℕ → List (List ℕ) → List (List ℕ)
+-- The start states below n are marked, by number, behind no state at all.
+unfoldable pub startsBelow : (ℕ → Bool) → ℕ → List (List ℕ)
 unfolding tryState
-tryRow next r zero q = q
-tryRow next r (suc t) q = tryState next r t (tryRow next r t q)
+startsBelow start zero = []
+startsBelow start (suc s) = tryState start [] s (startsBelow start s)
 
--- The first i runs found have been tried with every state; before them the start states behind no state at all.
-unfoldable pub explored : System → ℕ → List (List ℕ)
-unfolding tryRow
-explored M zero = tryRow (M .start) [] (M .size) []
+-- The last state of r and the state t are tried as a pair, unless the marked states are as many as there are.
+unfoldable pub tryPair : (size : ℕ) → (ℕ → Bool) → List ℕ → ℕ → Collection → Collection
+unfolding tryState
+tryPair size next r t c =
+    let tried : Collection = record { runs = tryState next r t (c .runs); pairs = c .pairs + 1 } in
+    cond (eqb (length (c .runs)) size) c tried
+
+-- It is tried as the first of a pair with the states below n, by number.
+unfoldable pub tryRow : (size : ℕ) → (ℕ → Bool) → List ℕ → ℕ → Collection → Collection
+unfolding tryPair
+tryRow size next r zero c = c
+tryRow size next r (suc t) c = tryPair size next r t (tryRow size next r t c)
+
+-- The start states are marked, and the first i runs have been tried with every state.
+unfoldable pub explored : System → ℕ → Collection
+unfolding startsBelow tryRow
+explored M zero = record { runs = startsBelow (M .start) (M .size); pairs = 0 }
 explored M (suc i) =
-    let q = explored M i in
-    cond (ltb i (length q)) (tryRow (M .step (last (getD q i []))) (getD q i []) (M .size) q) q
+    let c = explored M i in
+    let r = getD (c .runs) i [] in
+    let more = tryRow (M .size) (M .step (last r)) r (M .size) c in
+    cond (ltb i (length (c .runs))) more c
 
 -- Each state is marked at most once, so after as many runs as there are states all of them have been tried.
-unfoldable pub search : System → List (List ℕ)
+unfoldable pub search : System → Collection
 unfolding explored
 search M = explored M (M .size)

@@ -9,7 +9,7 @@ use Rattle.searches.specs.declared.runs.Reached.{Reached}
 use Rattle.searches.specs.declared.runs.Runs.{Runs}
 use Rattle.systems.specs.Count.{count}
 use Rattle.systems.specs.System.{System}
-use Rattle.searches.specs.Search.{isMarked, search}
+use Rattle.searches.specs.Search.{Collection, isMarked, search}
 
 -- ---- the runs
 
@@ -25,6 +25,11 @@ unfoldable pub runsIn : Runs → List (List ℕ)
 unfolding runsTo
 runsIn x = runsTo (x .order) (x .parents) (x .count)
 
+-- What has been collected.
+unfoldable pub collectionIn : Runs → Collection
+unfolding runsIn
+collectionIn x = record { runs = runsIn x; pairs = x .pairs }
+
 -- One run more, to state t behind the run at place `parent`.
 unfoldable pub withRun : Runs → ℕ → ℕ → Runs
 withRun x parent t =
@@ -34,6 +39,7 @@ withRun x parent t =
       count = n + 1;
       order = set (x .order) n t;
       parents = set (x .parents) n parent;
+      pairs = x .pairs;
     }
 
 -- The marks are those of the runs, the count is how many there are, and a run extends one that was found earlier, or none.
@@ -46,9 +52,10 @@ pub record Sound (x : Runs) : Type 0 where
   pub states : (k : ℕ) → k < x .count → getD (x .order) k 0 < 128
   pub earlier : (k : ℕ) → k < x .count → getD (x .parents) k 0 < 128 → getD (x .parents) k 0 < k
 
--- x holds the runs q.
-pub record Stores (q : List (List ℕ)) (x : Runs) : Type 0 where
-  pub runs : runsIn x ≡ q
+-- x holds the collection c.
+pub record Stores (c : Collection) (x : Runs) : Type 0 where
+  pub runs : runsIn x ≡ c .runs
+  pub pairs : x .pairs ≡ c .pairs
   pub sound : Sound x
 
 -- There is room for a run more, to state t behind the run at place `parent`, or behind none.
@@ -57,16 +64,20 @@ pub record Markable (x : Runs) (parent t : ℕ) : Type 0 where
   pub state : t < 128
   pub place : parent < 256
 
--- The run at place i is stored and ends in a state whose row is a part of the masks.
+-- The run at place i is stored and ends in a state whose row is a part of the masks. No more pairs have been tried than there are.
 pub record Triable (masks : List ℕ) (states i : ℕ) (x : Runs) : Type 0 where
   pub few : states ≤ 128
   pub room : 128 * states ≤ length masks
   pub sound : Sound x
   pub found : i < x .count
   pub state : getD (x .order) i 0 < states
+  pub tried : x .pairs ≤ 128 * 128
 
 -- ---- the reached states
 
--- The reached states of a system, whose states are below 128: the states that the runs found end in.
+-- What the search of a system answers, whose states are below 128: the marks, how many there are, and how many pairs have been tried.
 unfoldable pub reachedOf : System → Reached
-reachedOf M = record { marks = tabulate 128 (isMarked (search M)); count = length (search M) }
+unfolding isMarked search
+reachedOf M =
+    let c = search M in
+    record { marks = tabulate 128 (isMarked (c .runs)); count = length (c .runs); pairs = c .pairs }

@@ -1,11 +1,12 @@
-// The breadth-first search that collects the reached states with a run to each, in the order of marking. No pair of states is tried twice.
+// The breadth-first search that collects the reached states with a run to each, in the order of marking. No pair of states is tried twice, and
+// none once every state is reached.
 ghost use mathlib.Core.Path.{_≡_};
 ghost use mathlib.Core.List.{[]};
 ghost use Prim.Native.Nat.{_≤_};
 ghost use lib.ListN.{getD};
-ghost use Rattle.searches.specs.Search.{tryRow, search};
+ghost use Rattle.searches.specs.Search.{startsBelow, tryRow, search};
 ghost use Rattle.systems.specs.ByTables.{markAt, stepBy, HasRoom, systemBy};
-ghost use Rattle.searches.specs.Stored.{runsIn, Stores, Triable, reachedOf};
+ghost use Rattle.searches.specs.Stored.{runsIn, collectionIn, Stores, Triable, reachedOf};
 use crate::runs::Reached;
 use crate::runs::Runs;
 use systems::tables::Tables;
@@ -13,13 +14,14 @@ use systems::tables::Tables;
 // The start states are marked, by number.
 fn find_starts(t: Tables) -> Runs
     requires { ⌜ t .states ≤ 128 ⌝ }
-    ensures { λ r. ⌜ Stores (tryRow (markAt (t .start)) [] (t .states) []) r ⌝ }
+    ensures { λ r. ⌜ Stores (record { runs = startsBelow (markAt (t .start)) (t .states); pairs = 0 }) r ⌝ }
 {
     let mut x = Runs {
         marks: [false; 128],
         count: 0,
         order: [0; 128],
         parents: [0; 128],
+        pairs: 0,
     };
     let mut s = 0;
     while s < t.states {
@@ -31,16 +33,21 @@ fn find_starts(t: Tables) -> Runs
     x
 }
 
-// The run at place i is tried with every state, by number. The masks have the rows of the states alone, so it has to end in one of them.
+// The last state of the run at place i is tried as the first of a pair with every state, by number, until every state is reached. The masks have the
+// rows of the states alone, so it has to be one of them.
 fn try_row(masks: &[u16], states: usize, set: u16, i: usize, x: Runs) -> Runs
     requires { ⌜ Triable (now masks) states i x ⌝ }
     ensures { λ r.
-        ⌜ Stores (tryRow (stepBy (now (masks .entry)) set (getD (x .order) i 0)) (getD (runsIn x) i []) states (runsIn x)) r ⌝ }
+        ⌜ Stores (tryRow states (stepBy (now (masks .entry)) set (getD (x .order) i 0)) (getD (runsIn x) i []) states (collectionIn x)) r ⌝ }
 {
     let s = x.order[i] as usize;
     let mut y = x;
     let mut t = 0;
     while t < states {
+        if y.count == states {
+            return y;
+        }
+        y.pairs += 1;
         if ((masks[128 * s + t] & set) == set) & !y.marks[t] {
             y = crate::runs::mark(y, i, t);
         }
@@ -49,7 +56,7 @@ fn try_row(masks: &[u16], states: usize, set: u16, i: usize, x: Runs) -> Runs
     y
 }
 
-// Every run is tried once, in the order of marking.
+// Every run is tried once, in the order of marking, until every state is reached.
 pub(crate) fn explore(masks: &[u16], t: Tables, set: u16) -> Runs
     requires { ⌜ HasRoom (now masks) t ⌝ }
     ensures { λ r. ⌜ Stores (search (systemBy (now (masks .entry)) t set)) r ⌝ }
@@ -57,13 +64,16 @@ pub(crate) fn explore(masks: &[u16], t: Tables, set: u16) -> Runs
     let mut x = find_starts(t);
     let mut i = 0;
     while i < x.count {
+        if x.count == t.states {
+            return x;
+        }
         x = try_row(masks, t.states, set, i, x);
         i += 1;
     }
     x
 }
 
-// The reached states.
+// The reached states, and how many pairs of states were tried.
 pub fn reached(masks: &[u16], t: Tables, set: u16) -> Reached
     requires { ⌜ HasRoom (now masks) t ⌝ }
     ensures { λ r. ⌜ r ≡ reachedOf (systemBy (now (masks .entry)) t set) ⌝ }
@@ -73,5 +83,6 @@ pub fn reached(masks: &[u16], t: Tables, set: u16) -> Reached
     Reached {
         marks,
         count: x.count,
+        pairs: x.pairs,
     }
 }

@@ -9,7 +9,7 @@ use models::model::Model;
 use systems::tables::Tables;
 
 // How many states a model of `vars` letters has.
-fn state_count(vars: usize) -> usize
+pub fn state_count(vars: usize) -> usize
     requires { ⌜ vars ≤ 7 ⌝ }
     ensures { λ r. ⌜ r ≡ 2 ^ vars ⌝ }
 {

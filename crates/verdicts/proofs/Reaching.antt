@@ -27,13 +27,17 @@ use Rattle.systems.specs.Laws.Holds.{holds-iff}
 use Rattle.systems.specs.declared.tables.Tables.{Tables}
 use Rattle.sets.specs.Next.{NextFrom, NextAny}
 use Rattle.systems.specs.ByTables.{markAt, stepBy, systemBy, judgeBy}
-use Rattle.verdicts.specs.Marks.{markOf, isHit, isOpen, FirstMarks, RowMarked, RowWalked}
+use Rattle.verdicts.specs.Marks.{markOf, hasBits, anyWith, isOpen, FirstMarks, RowMarked, RowWalked}
 
 -- ---- one mark
 
--- Its row has been walked.
+-- It is reached and bad; and its row has been walked.
+abbrev pub isHit : ℕ → Bool
+isHit = hasBits 5
+
 unfoldable isWalked : ℕ → Bool
-isWalked m = eqb (bitAnd m 2) 2
+unfolding hasBits
+isWalked = hasBits 2
 
 pub mark-first : (r b : Bool) → bitOr (boolByte r) (boolByte b * 4 % 65536) ≡ markOf r false b
 unfolding markOf
@@ -65,19 +69,20 @@ mark-reached false false false false = refl
 record BitsSay (r w b : Bool) : Type 0 where
   walk : bitOr (markOf r w b) 2 ≡ markOf r true b
   hit : isHit (markOf r w b) ≡ (r && b)
+  bad : hasBits 4 (markOf r w b) ≡ b
   left : isOpen (markOf r w b) ≡ (r && not w)
   walked : isWalked (markOf r w b) ≡ w
 
 bits-say : (r w b : Bool) → BitsSay r w b
-unfolding markOf isHit isOpen isWalked
-bits-say true true true = record { walk = refl; hit = refl; left = refl; walked = refl }
-bits-say true true false = record { walk = refl; hit = refl; left = refl; walked = refl }
-bits-say true false true = record { walk = refl; hit = refl; left = refl; walked = refl }
-bits-say true false false = record { walk = refl; hit = refl; left = refl; walked = refl }
-bits-say false true true = record { walk = refl; hit = refl; left = refl; walked = refl }
-bits-say false true false = record { walk = refl; hit = refl; left = refl; walked = refl }
-bits-say false false true = record { walk = refl; hit = refl; left = refl; walked = refl }
-bits-say false false false = record { walk = refl; hit = refl; left = refl; walked = refl }
+unfolding markOf hasBits isOpen isWalked
+bits-say true true true = record { walk = refl; hit = refl; bad = refl; left = refl; walked = refl }
+bits-say true true false = record { walk = refl; hit = refl; bad = refl; left = refl; walked = refl }
+bits-say true false true = record { walk = refl; hit = refl; bad = refl; left = refl; walked = refl }
+bits-say true false false = record { walk = refl; hit = refl; bad = refl; left = refl; walked = refl }
+bits-say false true true = record { walk = refl; hit = refl; bad = refl; left = refl; walked = refl }
+bits-say false true false = record { walk = refl; hit = refl; bad = refl; left = refl; walked = refl }
+bits-say false false true = record { walk = refl; hit = refl; bad = refl; left = refl; walked = refl }
+bits-say false false false = record { walk = refl; hit = refl; bad = refl; left = refl; walked = refl }
 
 either : (a b : Bool) → (a || b) ≡ true → (a ≡ true) ⊎ (b ≡ true)
 either true b e = inl refl
@@ -183,7 +188,8 @@ module _ {M : System} {marks : List ℕ} (x : Spread M marks) where
       (r, not-true (x .walked s) w)
 
   -- A reached state is bad;
-  spread-hit : any (M .size) (λ t. isHit (getD marks t 0)) ≡ true → holds M ≡ false
+  spread-hit : anyWith 5 (M .size) marks ≡ true → holds M ≡ false
+  unfolding anyWith
   spread-hit e =
       let p : ℕ → Bool = λ t. isHit (getD marks t 0) in
       let s : ℕ = least (M .size) p in
@@ -192,7 +198,8 @@ module _ {M : System} {marks : List ℕ} (x : Spread M marks) where
       eq-false-of-not-eq-true (λ t. true≢false (sym b ∙ holds-iff M .0 t .good s (x .runs s h r)))
 
   -- if none is, the next one is not;
-  spread-unhit : any (M .size) (λ t. isHit (getD marks t 0)) ≡ false → (s : ℕ) → s < M .size → x .reached s ≡ true → M .bad s ≡ false
+  spread-unhit : anyWith 5 (M .size) marks ≡ false → (s : ℕ) → s < M .size → x .reached s ≡ true → M .bad s ≡ false
+  unfolding anyWith
   spread-unhit none s h e =
       other (x .reached s) (M .bad s)
       (sym (bits-say _ (x .walked s) _ .hit) ∙ ap isHit (sym (x .at s h))
@@ -233,7 +240,7 @@ module _ (masks : List ℕ) (tables : Tables) (rules s : ℕ) {before after : Li
     (x : Spread (systemBy masks tables rules) before)
     (h : s < tables .states)
     (left : isOpen (getD before s 0) ≡ true)
-    (unhit : any (tables .states) (λ t. isHit (getD before t 0)) ≡ false)
+    (unhit : anyWith 5 (tables .states) before ≡ false)
     (few : tables .states ≤ 128)
     (w : RowWalked masks (tables .states) rules s before after)
   where
@@ -287,9 +294,20 @@ module _ (masks : List ℕ) (tables : Tables) (rules s : ℕ) {before after : Li
 
 -- ---- the judgement
 
--- A reached state is bad.
-abbrev pub Hit : ℕ → List ℕ → Bool
-Hit states marks = any states (λ t. isHit (getD marks t 0))
+-- No state is bad.
+pub none-bad : (masks : List ℕ) (tables : Tables) (rules : ℕ) {marks : List ℕ} → FirstMarks tables marks → anyWith 4 (tables .states) marks ≡ false
+    → judgeBy masks tables rules ≡ true
+unfolding anyWith judgeBy systemBy
+none-bad masks tables rules {marks} f none = holds-iff M .1 (record { good = λ s r. good s (subst (λ t. t < M .size) (r .ends) (walk-last (r .path) (r .run))) })
+  where
+    M : System
+    M = systemBy masks tables rules
+
+    good : (s : ℕ) → s < M .size → M .bad s ≡ false
+    good s h =
+        sym (bits-say (markAt (tables .start) s) false (markAt (tables .bad) s) .bad)
+        ∙ ap (hasBits 4) (sym (f .at s h))
+        ∙ eq-false-of-not-eq-true (λ e. true≢false (sym (any-intro (tables .states) (λ t. hasBits 4 (getD marks t 0)) s h e) ∙ none))
 
 -- The marks are spread, and s is the next state to walk from, if there is one.
 pub record Judging (masks : List ℕ) (tables : Tables) (rules : ℕ) (marks : List ℕ) (s : ℕ) : Type 0 where
@@ -298,7 +316,7 @@ pub record Judging (masks : List ℕ) (tables : Tables) (rules : ℕ) (marks : L
 
 module _ {masks : List ℕ} {tables : Tables} {rules s : ℕ} {before : List ℕ} (j : Judging masks tables rules before s) where
   -- A reached state is bad.
-  pub judging-hit : Hit (tables .states) before ≡ true → judgeBy masks tables rules ≡ false
+  pub judging-hit : anyWith 5 (tables .states) before ≡ true → judgeBy masks tables rules ≡ false
   unfolding judgeBy systemBy
   judging-hit e = spread-hit (j .spread) e
 
@@ -308,7 +326,7 @@ module _ {masks : List ℕ} {tables : Tables} {rules s : ℕ} {before : List ℕ
   judging-ends h = spread-all (j .spread) (j .next .none h)
 
   -- The row of state s is walked.
-  module _ (h : s < tables .states) (unhit : Hit (tables .states) before ≡ false) (few : tables .states ≤ 128)
+  module _ (h : s < tables .states) (unhit : anyWith 5 (tables .states) before ≡ false) (few : tables .states ≤ 128)
       {after : List ℕ} (w : RowWalked masks (tables .states) rules s before after) where
     pub judging-next : {t : ℕ} → NextAny (λ t. isOpen (getD after t 0)) (tables .states) t → Judging masks tables rules after t
     judging-next n = record { spread = spread-next masks tables rules s (j .spread) h (j .next .passes h) unhit few w; next = n }

@@ -8,6 +8,7 @@ use mir.Val.{boolByte}
 use lib.Bits.{bitAnd, bitOr}
 use lib.Dec.{eqb}
 use lib.ListN.{length, getD, set}
+use Rattle.systems.specs.Least.{any}
 use Rattle.systems.specs.declared.tables.Tables.{Tables}
 use Rattle.systems.specs.ByTables.{markAt, stepBy}
 
@@ -15,9 +16,14 @@ use Rattle.systems.specs.ByTables.{markAt, stepBy}
 unfoldable pub markOf : (reached walked bad : Bool) → ℕ
 markOf reached walked bad = boolByte reached + (2 * boolByte walked + 4 * boolByte bad)
 
--- It is reached and bad.
-unfoldable pub isHit : ℕ → Bool
-isHit m = eqb (bitAnd m 5) 5
+-- It has these bits: 4 for a bad state, 5 for a reached one that is bad.
+unfoldable pub hasBits : (bits : ℕ) → ℕ → Bool
+hasBits bits m = eqb (bitAnd m bits) bits
+
+-- Some state has them in its mark.
+unfoldable pub anyWith : (bits states : ℕ) → List ℕ → Bool
+unfolding any hasBits
+anyWith bits states marks = any states (λ t. hasBits bits (getD marks t 0))
 
 -- It is reached, and its row has not been walked.
 unfoldable pub isOpen : ℕ → Bool

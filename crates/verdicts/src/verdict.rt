@@ -3,10 +3,9 @@
 ghost use Prim.Native.Nat.{_≤_, _<_};
 ghost use mathlib.Core.Path.{_≡_};
 ghost use lib.ListN.{length, getD};
-ghost use Rattle.systems.specs.Least.{any};
 ghost use Rattle.sets.specs.Next.{NextFrom, NextAny};
 ghost use Rattle.systems.specs.ByTables.{HasRoom, judgeBy};
-ghost use Rattle.verdicts.specs.Marks.{FirstMarks, RowMarked, Walkable, RowWalked, isHit, isOpen};
+ghost use Rattle.verdicts.specs.Marks.{FirstMarks, RowMarked, Walkable, RowWalked, anyWith, isOpen};
 use systems::tables::Tables;
 
 // The start states are reached, and no row has been walked.
@@ -23,18 +22,18 @@ fn first_marks(t: Tables) -> [u16; 128]
     marks
 }
 
-// Whether a reached state is bad.
-fn is_hit(marks: &[u16; 128], states: usize) -> bool
+// Whether some state has these bits in its mark: 4 for a bad state, 5 for a reached one that is bad.
+fn any_with(marks: &[u16; 128], states: usize, bits: u16) -> bool
     requires { ⌜ states ≤ 128 ⌝ }
-    ensures { λ r. ⌜ r ≡ any states (λ t. isHit (getD (now (marks .entry)) t 0)) ⌝ }
+    ensures { λ r. ⌜ r ≡ anyWith bits states (now (marks .entry)) ⌝ }
 {
-    let mut hit = false;
+    let mut found = false;
     let mut t = 0;
     while t < states {
-        hit = hit | ((marks[t] & 5) == 5);
+        found = found | ((marks[t] & bits) == bits);
         t += 1;
     }
-    hit
+    found
 }
 
 // The first state from s on that is reached and whose row has not been walked; the number of states if there is none.
@@ -88,15 +87,19 @@ fn walk_row(masks: &[u16], states: usize, set: u16, s: usize, marks: &mut [u16; 
     mark_row(&masks[from..to], set, marks);
 }
 
-// Whether a set holds by the tables. Each reached state's row is walked once, until a bad state is reached or no row is left.
+// Whether a set holds by the tables. Each reached state's row is walked once, until a bad state is reached or no row is left. Where no state is bad
+// none is walked, so that the walk ends in any case once every state is reached, and no row has to be asked whether that is so.
 pub fn is_held(masks: &[u16], t: Tables, set: u16) -> bool
     requires { ⌜ HasRoom (now masks) t ⌝ }
     ensures { λ r. ⌜ r ≡ judgeBy (now (masks .entry)) t set ⌝ }
 {
     let mut marks = first_marks(t);
+    if !any_with(&marks, t.states, 4) {
+        return true;
+    }
     let mut s = next_round(&marks, 0, t.states);
     while s < t.states {
-        if is_hit(&marks, t.states) {
+        if any_with(&marks, t.states, 5) {
             return false;
         }
         walk_row(masks, t.states, set, s, &mut marks);

@@ -104,6 +104,13 @@ pub enum Verdict {
     },
 }
 
+/// What is said of the states that a set reaches, beside their marks, which stand at the beginning of the lent bytes.
+#[derive(Clone, Copy, Debug, PartialEq, Eq)]
+pub struct Reached {
+    /// How many pairs of states were tried.
+    pub pairs: usize,
+}
+
 /// What is said of a set that is looked up in a core list and a cut list.
 #[derive(Clone, Copy, Debug, PartialEq, Eq)]
 pub enum Said {

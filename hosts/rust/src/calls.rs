@@ -1,6 +1,6 @@
 //! The calls of libcodremif.a.
 
-use crate::answer::{Reason, Refused, Said, Verdict};
+use crate::answer::{Reached, Reason, Refused, Said, Verdict};
 
 /// The declarations as a C host has them.
 mod declared {
@@ -11,6 +11,13 @@ mod declared {
             set: u32,
             trace: *mut u8,
             trace_len: usize,
+        ) -> u64;
+        pub fn codremif_reached(
+            text: *const u8,
+            text_len: usize,
+            set: u32,
+            marks: *mut u8,
+            marks_len: usize,
         ) -> u64;
         pub fn codremif_cores(text: *const u8, text_len: usize, sets: *mut u8, sets_len: usize) -> u64;
         pub fn codremif_cuts(text: *const u8, text_len: usize, sets: *mut u8, sets_len: usize) -> u64;
@@ -48,6 +55,19 @@ pub fn judge(text: &[u8], set: u32, trace: &mut [u8]) -> Result<Verdict, Refused
     assert_ne!(accepted.amount, 0, "a broken set has no trace: {packed:#x}");
     Ok(Verdict::Broken { length: accepted.amount })
 }
+
+/// Marks the states that `set` reaches: one byte for each state by number at the beginning of `marks`, 1 for reached and 0
+/// for not.
+pub fn reached(text: &[u8], set: u32, marks: &mut [u8]) -> Result<Reached, Refused> {
+    // SAFETY: as in `judge`.
+    let packed = unsafe {
+        declared::codremif_reached(text.as_ptr(), text.len(), set, marks.as_mut_ptr(), marks.len())
+    };
+    Ok(Reached { pairs: amount_alone(packed)? })
+}
+
+/// So many bytes are enough for the marks of every model: seven bits have 128 states.
+pub const MARK_BYTES: usize = 128;
 
 /// Writes the cores to the beginning of `sets`, two bytes each, and gives their number.
 pub fn cores(text: &[u8], sets: &mut [u8]) -> Result<usize, Refused> {
@@ -140,7 +160,7 @@ struct Accepted {
     holds: bool,
 }
 
-/// Takes apart: the number, plus 256 times the line, plus 65,536 times the length, count or set, plus 2^40 for a
+/// Takes apart: the number, plus 256 times the line, plus 65,536 times the length, count, set or pairs, plus 2^40 for a
 /// verdict that holds. It panics where a part is not 0 that docs/FORMAT.md says is 0, so that no test can miss it; a number
 /// that it does not know is a refusal like the others.
 fn unpack(packed: u64) -> Result<Accepted, Refused> {

@@ -3,12 +3,13 @@
 use std::collections::BTreeMap;
 use std::fmt::Debug;
 
-use crate::answer::{Reason, Refused, Said, Verdict};
+use crate::answer::{Reached, Reason, Refused, Said, Verdict};
 use crate::calls;
 use crate::handed::Handed;
 use crate::lent::{Fill, Lent};
-use crate::plain::answers::Answers;
+use crate::plain::answers::{self, Answers};
 use crate::plain::lookup;
+use crate::plain::system::TransitionSystem;
 
 /// How often the library was asked, and how often it gave each number (number 0: accepted).
 #[derive(Clone, Debug, Default)]
@@ -62,6 +63,19 @@ impl Tally {
         fill: Fill,
     ) -> Result<Verdict, Refused> {
         self.ask(text, length, fill, |lent| calls::judge(text, set, lent), |lent| plain.judge(set, lent))
+    }
+
+    /// The text is given as the plain search reads it: its system, or why it is refused.
+    pub fn reached(
+        &mut self,
+        text: &[u8],
+        plain: Result<&TransitionSystem, Refused>,
+        set: u32,
+        length: usize,
+        fill: Fill,
+    ) -> Result<Reached, Refused> {
+        let library = |lent: &mut [u8]| calls::reached(text, set, lent);
+        self.ask(text, length, fill, library, |lent| answers::reached(plain?, set, lent))
     }
 
     pub fn cores(
@@ -126,12 +140,13 @@ impl Tally {
         answered
     }
 
-    /// A text that the plain reader refuses: all calls must refuse it alike. Judge is asked with set 0, with a set too
-    /// large for any model and with no byte lent, because the text comes before 10 and 11.
+    /// A text that the plain reader refuses: all calls must refuse it alike. Those that are given a set are asked with set 0,
+    /// with a set too large for any model and with no byte lent, because the text comes before 10 and 11.
     pub fn refused_text(&mut self, text: &[u8], expected: Refused, fill: Fill) {
         for (set, length) in [(0, 128), (0, 0), (u32::MAX, 0), (1 << 16, 16)] {
             let library = |lent: &mut [u8]| calls::judge(text, set, lent);
             let _ = self.ask(text, length, fill, library, |_| Err(expected));
+            let _ = self.reached(text, Err(expected), set, length, fill);
         }
         for length in [0, 64] {
             let _ = self.ask(text, length, fill, |lent| calls::cores(text, lent), |_| Err(expected));

@@ -3,7 +3,8 @@
 //! * [`calls`] declares the C functions and wraps them safely.
 //! * [`plain`] answers the same calls by a plain search, written from the request's text alone. It shares no code and no
 //!   table with the library: it evaluates every rule for every pair of states, judges every rule set, and takes the
-//!   cores and cuts by their definition. It looks a set up by going over the lists.
+//!   cores and cuts by their definition. It collects the reached states as the request says it, and looks a set up by going
+//!   over the lists.
 //! * [`judgements`] counts the judgements of a list call, for the bench.
 //! * [`program`] runs the report program.
 //! * [`random`] makes models, damaged texts and lists from a seed.

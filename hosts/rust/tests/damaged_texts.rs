@@ -227,8 +227,9 @@ fn compare_accepted(seen: &mut Seen, text: &[u8], model: &Model, fills: &[Fill])
     let too_large = Refused::new(Reason::NoSuchSet, 0);
     for fill in fills {
         let mut lent = Lent::new(5, *fill);
-        let answer = calls::judge(text, 1 << model.rules.len(), lent.bytes());
-        assert_eq!(answer, Err(too_large), "{}", show(text));
+        let set = 1 << model.rules.len();
+        assert_eq!(calls::judge(text, set, lent.bytes()), Err(too_large), "{}", show(text));
+        assert_eq!(calls::reached(text, set, lent.bytes()), Err(too_large), "{}", show(text));
         assert!(lent.is_untouched(), "{}", show(text));
     }
     seen.note(too_large);
@@ -245,6 +246,7 @@ fn compare_in_full(seen: &mut Seen, text: &[u8], fills: &[Fill]) {
         let needed = 2 * plain.cores.len().max(plain.cuts.len());
         let _ = seen.tally.judge(text, &plain, 0, 128, *fill);
         let _ = seen.tally.judge(text, &plain, u32::from(plain.system.full_set()), 16, *fill);
+        compare_reached(seen, text, &plain, *fill);
         let _ = seen.tally.cores(text, &plain, needed, *fill);
         let _ = seen.tally.cuts(text, &plain, needed, *fill);
         for list in [seen.tally.cores(text, &plain, 1, *fill), seen.tally.cuts(text, &plain, 1, *fill)] {
@@ -252,5 +254,15 @@ fn compare_in_full(seen: &mut Seen, text: &[u8], fills: &[Fill]) {
                 seen.note(refused);
             }
         }
+    }
+}
+
+fn compare_reached(seen: &mut Seen, text: &[u8], plain: &Answers, fill: Fill) {
+    let system = &plain.system;
+    for set in [0, u32::from(system.full_set())] {
+        let answer = seen.tally.reached(text, Ok(system), set, system.states + 1, fill);
+        assert!(answer.is_ok(), "{}", show(text));
+        let too_few = seen.tally.reached(text, Ok(system), set, system.states - 1, fill);
+        assert_eq!(too_few, Err(Refused::new(Reason::TooFewBytes, 0)), "{}", show(text));
     }
 }

@@ -1,13 +1,13 @@
-//! Every example at the edges that the request lists, and examples of several properties worked out by hand, asked of the
-//! library and of the plain search.
+//! Every example at the edges that the request lists, and examples of several properties and of reached states worked out by
+//! hand, asked of the library and of the plain search.
 
 #![deny(warnings)]
 
-use codremif_host::answer::{Reason, Refused, Said, Verdict};
+use codremif_host::answer::{Reached, Reason, Refused, Said, Verdict};
 use codremif_host::compare::{place_in, show, Tally};
 use codremif_host::handed::Handed;
 use codremif_host::lent::Fill;
-use codremif_host::plain::answers::Answers;
+use codremif_host::plain::answers::{self, Answers};
 use codremif_host::plain::lookup;
 use codremif_host::plain::trace::trace;
 use codremif_host::{calls, plain};
@@ -32,6 +32,27 @@ fn expect_judged(text: &str, expected: &[(u16, Option<&[u8]>)]) {
         assert_eq!(verdict, Ok(wanted), "library, set {set}; {}", show(text.as_bytes()));
         assert_eq!(&lent[..length], run.unwrap_or(&[]), "library, set {set}; {}", show(text.as_bytes()));
         assert!(lent[length..].iter().all(|byte| *byte == 99));
+    }
+}
+
+/// The marks of sets, one for each state by number, and how many pairs are tried for them.
+fn expect_reached(text: &str, expected: &[(u32, &[u8], usize)]) {
+    let text = text.as_bytes();
+    let system = Answers::of(text).expect("an accepted model").system;
+    for (set, marks, pairs) in expected {
+        let (mut ours, mut theirs) = ([99; 130], [99; 130]);
+        let answer = Ok(Reached { pairs: *pairs });
+        assert_eq!(
+            answers::reached(&system, *set, &mut ours),
+            answer,
+            "plain search, set {set}; {}",
+            show(text)
+        );
+        assert_eq!(calls::reached(text, *set, &mut theirs), answer, "library, set {set}; {}", show(text));
+        for (side, lent) in [("plain search", ours), ("library", theirs)] {
+            assert_eq!(&lent[..marks.len()], *marks, "{side}, set {set}; {}", show(text));
+            assert!(lent[marks.len()..].iter().all(|byte| *byte == 99), "{side}, set {set}; {}", show(text));
+        }
     }
 }
 
@@ -181,6 +202,53 @@ fn one_rule_once_and_twice() {
 fn two_steps_to_a_bad_state() {
     expect_judged(LATCH, &[(3, None), (2, Some(&[0, 1, 2])), (1, Some(&[0, 2])), (0, Some(&[0, 2]))]);
     expect_lists(LATCH, &[3], &[1, 2], Kinds(3, 0, 0));
+}
+
+/// Tremor starts in 0 to 3. Set 0 reaches the last state in the eighth pair of the first; the others never reach 4.
+#[test]
+fn tremor_reached() {
+    expect_reached(
+        TREMOR,
+        &[
+            (0, &[1; 8], 8),
+            (1, &[1, 1, 1, 1, 0, 1, 0, 1], 6 * 8),
+            (2, &[1, 1, 1, 1, 0, 0, 1, 1], 6 * 8),
+            (3, &[1, 1, 1, 1, 0, 0, 0, 1], 5 * 8),
+            (4, &[1, 1, 1, 1, 0, 0, 0, 1], 5 * 8),
+            (7, &[1, 1, 1, 1, 0, 0, 0, 1], 5 * 8),
+        ],
+    );
+    let system = Answers::of(TREMOR.as_bytes()).expect("an accepted model").system;
+    let mut tally = Tally::default();
+    for fill in Fill::ALL {
+        let mut ask = |set, length| tally.reached(TREMOR.as_bytes(), Ok(&system), set, length, fill);
+        assert_eq!(ask(7, 8), Ok(Reached { pairs: 40 }));
+        assert_eq!(ask(7, 7), Err(Refused::new(Reason::TooFewBytes, 0)));
+        assert_eq!(ask(7, 0), Err(Refused::new(Reason::TooFewBytes, 0)));
+        assert_eq!(ask(8, 8), Err(Refused::new(Reason::NoSuchSet, 0)));
+        assert_eq!(ask(8, 7), Err(Refused::new(Reason::NoSuchSet, 0)));
+        assert_eq!(ask(u32::MAX, 0), Err(Refused::new(Reason::NoSuchSet, 0)));
+    }
+}
+
+/// With rule `r` alone 2 is followed by 0, 0 by 1, and nothing by 3: 3 was marked before 0 and is tried before it.
+#[test]
+fn in_the_order_of_marking() {
+    let hop = "vars=2\nrules=1\ninit=b\nprop=1\nrule=r:&!a&!B=b!A\n";
+    expect_reached(hop, &[(1, &[1; 4], 4 + 4 + 2), (0, &[1; 4], 2)]);
+    expect_reached(LATCH, &[(0, &[1; 4], 4), (1, &[1, 0, 1, 0], 8), (2, &[1; 4], 8), (3, &[1, 0, 0, 0], 4)]);
+}
+
+/// The start states need no pair; without one there is nothing to try, and yet each state has its mark.
+#[test]
+fn reached_without_a_pair() {
+    expect_reached(&one_bit("1", "1", "0"), &[(0, &[1, 1], 0), (1, &[1, 1], 0)]);
+    expect_reached(&one_bit("0", "1", "1"), &[(0, &[0, 0], 0), (1, &[0, 0], 0)]);
+    expect_reached(&one_bit("!a", "1", "0"), &[(0, &[1, 1], 2), (1, &[1, 0], 2)]);
+    expect_reached(&one_bit("a", "1", "!A"), &[(0, &[1, 1], 1), (1, &[1, 1], 1)]);
+    let seven = "vars=7\nrules=1\ninit=!|a|b|c|d|e|fg\nprop=1\nrule=r:=Gg\n";
+    let half: Vec<u8> = (0..128).map(|state| u8::from(state < 64)).collect();
+    expect_reached(seven, &[(0, &[1; 128], 128), (1, &half, 64 * 128)]);
 }
 
 /// Two bits that start as 0, with these properties and rules.

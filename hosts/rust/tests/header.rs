@@ -1,5 +1,5 @@
 //! The wrapper against include/codremif.h: the refusals have the same numbers, names and words, what is said of a set has the
-//! same numbers and names, and the library is of the header's version.
+//! same numbers and names, as many bytes are enough, and the library is of the header's version.
 
 #![deny(warnings)]
 
@@ -7,6 +7,7 @@ use std::fmt::Debug;
 use std::path::Path;
 
 use codremif_host::answer::{Reason, Said};
+use codremif_host::calls;
 
 fn header() -> String {
     let path = Path::new(env!("CARGO_MANIFEST_DIR")).join("../../include/codremif.h");
@@ -66,8 +67,17 @@ fn what_is_said_of_a_set() {
 }
 
 #[test]
+fn bytes_that_are_enough() {
+    let header = header();
+    for (name, bytes) in [("MARK", calls::MARK_BYTES), ("LIST", calls::LIST_BYTES)] {
+        let stated = between(&header, &format!("#define CODREMIF_{name}_BYTES "), "\n");
+        assert_eq!(stated, bytes.to_string(), "header left, wrapper right");
+    }
+}
+
+#[test]
 fn version() {
     let header = header();
     let stated = between(&header, "#define CODREMIF_VERSION ", "\n");
-    assert_eq!(codremif_host::calls::version().to_string(), stated, "library left, header right");
+    assert_eq!(calls::version().to_string(), stated, "library left, header right");
 }

@@ -4,7 +4,7 @@
 
 #![deny(warnings)]
 
-use codremif_host::answer::Verdict;
+use codremif_host::answer::{Reached, Verdict};
 use codremif_host::calls;
 use codremif_host::compare::show;
 use codremif_host::plain::answers::Answers;
@@ -201,6 +201,31 @@ impl Seen {
             "{self:?}"
         );
     }
+}
+
+/// Which states are reached does not depend on the properties, and neither do the pairs that are tried.
+#[test]
+fn the_same_states_reached_by_each_property() {
+    let mut random = Random::new(seed_for("reached by each property", 20_260_704));
+    let mut properties = PropertyCounts::default();
+    for _ in 0..5_000 {
+        let written = small_model(&mut random);
+        let set = random_set(&mut random) & full_set(&written);
+        let joint = reached(&written.text(), set);
+        for alone in written.by_property() {
+            assert_eq!(reached(&alone.text(), set), joint, "set {set}; {}", show(&written.text()));
+        }
+        properties.note(written.properties.len());
+    }
+    println!("reached by each property: {properties:?}");
+    assert!(properties.fewest() >= 500, "{properties:?}");
+}
+
+/// The library's answer and marks.
+fn reached(text: &[u8], set: u16) -> (Reached, Vec<u8>) {
+    let mut marks = vec![0; calls::MARK_BYTES];
+    let answer = calls::reached(text, u32::from(set), &mut marks);
+    (answer.expect("an accepted model"), marks)
 }
 
 /// What the library says of a text: of some sets their traces, and everything else.

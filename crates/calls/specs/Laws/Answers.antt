@@ -9,6 +9,7 @@ use borrow.Author.Tests.{le-leb, lt-leb, lt-ltb, le-ltb}
 use lib.ListN.{length}
 use Rattle.sets.specs.Lists.{bytesOf}
 use Rattle.sets.specs.Laws.Lists.{length-bytesOf}
+use Rattle.sets.specs.Laws.Tabulated.{length-tabulate}
 use Rattle.models.specs.declared.model.Model.{Model}
 use Rattle.models.specs.declared.model.Outcome.{Outcome}
 use Rattle.models.specs.declared.model.Outcome.the-variants.{Accepted, Refused}
@@ -22,10 +23,11 @@ use Rattle.systems.specs.System.{System}
 use Rattle.systems.specs.Verdict.{holds, traceOf}
 use Rattle.sorting.specs.declared.which.WhichList.{WhichList}
 use Rattle.calls.specs.declared.answers.JudgeAnswer.the-variants.{Refused as JudgeRefused, Holds, Broken}
+use Rattle.calls.specs.declared.answers.ReachedAnswer.the-variants.{Refused as ReachedRefused, Pairs}
 use Rattle.calls.specs.declared.answers.ListAnswer.the-variants.{Refused as ListRefused, Count}
 use Rattle.sorting.specs.declared.kinds.Kind.{Kind}
 use Rattle.calls.specs.declared.answers.SetAnswer.the-variants.{Refused as SetRefused, Set}
-use Rattle.calls.specs.Answers.{Gives, rulesIn, systemIn, traceIn, listIn, kindIn, textOutcome, judgeOutcome, listOutcome, given, after, verdictOf, judgeAnswer, judgeBytes, listAnswer, listBytes, kindAnswer}
+use Rattle.calls.specs.Answers.{Gives, rulesIn, statesIn, systemIn, traceIn, marksIn, pairsIn, listIn, kindIn, textOutcome, askedOutcome, judgeOutcome, reachedOutcome, listOutcome, given, after, verdictOf, judgeAnswer, judgeBytes, reachedAnswer, reachedBytes, listAnswer, listBytes, kindAnswer}
 use Rattle.calls.specs.AsRead.{IsRead, placesIn}
 
 -- ---- what the reading of a text says
@@ -90,13 +92,13 @@ module _ {A : Type 0} (refuse : ℕ → ℕ → A) (a : A) where
 
 -- ---- the first number that fits
 
--- The outcome of judging set S: refused by the text's number, by 10, by 11, or accepted, the first of these that fits. Demand 1 rests on these
--- records for the order of the numbers.
-pub record JudgeNumbers (text : List ℕ) (S : ℕ) (lent : List ℕ) (o : Outcome) : Type 0 where
+-- The outcome of a call that is handed set S and writes new bytes: refused by the text's number, by 10, by 11, or accepted, the first of these that
+-- fits. Demand 1 rests on these records for the order of the numbers.
+pub record AskedNumbers (text : List ℕ) (S : ℕ) (new lent : List ℕ) (o : Outcome) : Type 0 where
   pub byText : (number line : ℕ) → textOutcome text ≡ Refused number line → o ≡ Refused number line
   pub bySet : textOutcome text ≡ Accepted → 2 ^ rulesIn text ≤ S → o ≡ Refused 10 0
-  pub byLength : textOutcome text ≡ Accepted → S < 2 ^ rulesIn text → length lent < length (traceIn text S) → o ≡ Refused 11 0
-  pub byNone : textOutcome text ≡ Accepted → S < 2 ^ rulesIn text → length (traceIn text S) ≤ length lent → o ≡ Accepted
+  pub byLength : textOutcome text ≡ Accepted → S < 2 ^ rulesIn text → length lent < length new → o ≡ Refused 11 0
+  pub byNone : textOutcome text ≡ Accepted → S < 2 ^ rulesIn text → length new ≤ length lent → o ≡ Accepted
 
 -- The outcome of listing sets: refused by the text's number, by 11, or accepted.
 pub record ListNumbers (text sets lent : List ℕ) (o : Outcome) : Type 0 where
@@ -104,14 +106,22 @@ pub record ListNumbers (text sets lent : List ℕ) (o : Outcome) : Type 0 where
   pub byLength : textOutcome text ≡ Accepted → length lent < 2 * length sets → o ≡ Refused 11 0
   pub byNone : textOutcome text ≡ Accepted → 2 * length sets ≤ length lent → o ≡ Accepted
 
-pub judge-numbers : (text : List ℕ) (S : ℕ) (lent : List ℕ) → JudgeNumbers text S lent (judgeOutcome text S lent)
-unfolding judgeOutcome
-judge-numbers text S lent = record {
+pub asked-numbers : (text : List ℕ) (S : ℕ) (new lent : List ℕ) → AskedNumbers text S new lent (askedOutcome text S new lent)
+unfolding askedOutcome
+asked-numbers text S new lent = record {
   byText = λ number line e. rw e;
   bySet = λ e h. rw (e, le-leb (2 ^ rulesIn text) S h);
-  byLength = λ e h l. rw (e, lt-leb (2 ^ rulesIn text) S h, lt-ltb (length lent) (length (traceIn text S)) l);
-  byNone = λ e h l. rw (e, lt-leb (2 ^ rulesIn text) S h, le-ltb (length lent) (length (traceIn text S)) l);
+  byLength = λ e h l. rw (e, lt-leb (2 ^ rulesIn text) S h, lt-ltb (length lent) (length new) l);
+  byNone = λ e h l. rw (e, lt-leb (2 ^ rulesIn text) S h, le-ltb (length lent) (length new) l);
 }
+
+pub judge-numbers : (text : List ℕ) (S : ℕ) (lent : List ℕ) → AskedNumbers text S (traceIn text S) lent (judgeOutcome text S lent)
+unfolding judgeOutcome
+judge-numbers text S lent = asked-numbers text S (traceIn text S) lent
+
+pub reached-numbers : (text : List ℕ) (S : ℕ) (lent : List ℕ) → AskedNumbers text S (marksIn text S) lent (reachedOutcome text S lent)
+unfolding reachedOutcome
+reached-numbers text S lent = asked-numbers text S (marksIn text S) lent
 
 pub list-numbers : (which : WhichList) (text lent : List ℕ) → ListNumbers text (listIn which text) lent (listOutcome which text lent)
 unfolding listOutcome
@@ -158,6 +168,15 @@ not-refused M number line = go (holds M)
     go true q = let z : _≡_ {A = ℕ} 0 1 = cc in omega arith
     go false q = let z : _≡_ {A = ℕ} 0 1 = cc in omega arith
 
+-- ---- the marks of a search
+
+pub length-marks : (text : List ℕ) (S : ℕ) → length (marksIn text S) ≡ statesIn text
+unfolding marksIn
+length-marks text S = length-tabulate (statesIn text) _
+
+pub pairs-told : (n number line : ℕ) → ¬ (Pairs n ≡ ReachedRefused number line)
+pairs-told n number line q = let z : _≡_ {A = ℕ} 0 1 = cc in omega arith
+
 -- ---- an accepted call answers and writes what the text means
 
 module _ (text : List ℕ) (model : textOutcome text ≡ Accepted) where
@@ -167,6 +186,13 @@ module _ (text : List ℕ) (model : textOutcome text ≡ Accepted) where
   judge-enough S lent h l =
       let e = judge-numbers text S lent .byNone model h l in
       record { says = given-accepted JudgeRefused _ e; writes = given-accepted _ _ e }
+
+  pub reached-enough : (S : ℕ) (lent : List ℕ) → S < 2 ^ rulesIn text → statesIn text ≤ length lent
+      → Gives (Pairs (pairsIn text S)) (marksIn text S) lent (reachedAnswer text S lent) (reachedBytes text S lent)
+  unfolding reachedAnswer reachedBytes after
+  reached-enough S lent h l =
+      let e = reached-numbers text S lent .byNone model h (omega (arith, length-marks text S)) in
+      record { says = given-accepted ReachedRefused _ e; writes = given-accepted _ _ e }
 
   pub list-enough : (which : WhichList) (lent : List ℕ) → 2 * length (listIn which text) ≤ length lent
       → Gives (Count (length (listIn which text))) (bytesOf (listIn which text)) lent (listAnswer which text lent) (listBytes which text lent)
@@ -186,6 +212,11 @@ module _ (text lent : List ℕ) (number line : ℕ) where
   unfolding judgeAnswer judgeBytes after
   judge-refused S e =
       given-refused _ _ (refusal-given JudgeRefused _ (not-refused (systemIn text S)) (λ n l number line q. cc) (judgeOutcome text S lent) e)
+
+  pub reached-refused : (S : ℕ) → reachedAnswer text S lent ≡ ReachedRefused number line → reachedBytes text S lent ≡ lent
+  unfolding reachedAnswer reachedBytes after
+  reached-refused S e =
+      given-refused _ _ (refusal-given ReachedRefused _ (pairs-told (pairsIn text S)) (λ n l number line q. cc) (reachedOutcome text S lent) e)
 
   pub list-refused : (which : WhichList) → listAnswer which text lent ≡ ListRefused number line → listBytes which text lent ≡ lent
   unfolding listAnswer listBytes after

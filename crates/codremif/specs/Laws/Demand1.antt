@@ -18,13 +18,14 @@ use Rattle.systems.specs.Verdict.{holds, traceOf}
 use Rattle.systems.specs.Judged.{judged}
 use Rattle.sorting.specs.declared.which.WhichList.{WhichList}
 use Rattle.calls.specs.declared.answers.JudgeAnswer.the-variants.{Refused as JudgeRefused}
+use Rattle.calls.specs.declared.answers.ReachedAnswer.the-variants.{Refused as ReachedRefused}
 use Rattle.calls.specs.declared.answers.ListAnswer.the-variants.{Refused as ListRefused, Count}
 use Rattle.calls.specs.declared.answers.SetAnswer.the-variants.{Refused as SetRefused, Set}
-use Rattle.calls.specs.Answers.{rulesIn, systemIn, traceIn, listIn, kindIn, textOutcome, judgeOutcome, listOutcome, given, after, judgeAnswer, judgeBytes, listAnswer, listBytes, kindAnswer}
-use Rattle.codremif.specs.Packing.{Parts, refused, judgeParts, listParts, setParts, packed}
-use Rattle.codremif.specs.Demand1.{JudgeFits, judge-text, set-beyond, trace-longer, ListFits, list-text, list-longer, FirstOf, Refusals, Demand1, HostRefusals, HostDemand1}
-use Rattle.calls.specs.Laws.Answers.{JudgeNumbers, ListNumbers, judge-numbers, list-numbers, given-refused, given-accepted, refusal-given, not-refused}
-use Rattle.codremif.specs.Laws.Host.{HostReads, judge-reads, list-reads, kind-reads}
+use Rattle.calls.specs.Answers.{rulesIn, statesIn, systemIn, traceIn, marksIn, pairsIn, listIn, kindIn, textOutcome, askedOutcome, judgeOutcome, reachedOutcome, listOutcome, given, after, judgeAnswer, judgeBytes, reachedAnswer, reachedBytes, listAnswer, listBytes, kindAnswer}
+use Rattle.codremif.specs.Packing.{Parts, refused, judgeParts, reachedParts, listParts, setParts, packed}
+use Rattle.codremif.specs.Demand1.{AskedFits, asked-text, set-beyond, bytes-fewer, TraceLonger, JudgeFits, ReachedFits, ListFits, list-text, list-longer, FirstOf, Refusals, Demand1, HostRefusals, HostDemand1}
+use Rattle.calls.specs.Laws.Answers.{AskedNumbers, ListNumbers, asked-numbers, list-numbers, given-refused, given-accepted, refusal-given, not-refused, length-marks, pairs-told}
+use Rattle.codremif.specs.Laws.Host.{HostReads, judge-reads, reached-reads, list-reads, kind-reads}
 
 -- ---- the numbers of a text are 1 to 9
 
@@ -90,23 +91,70 @@ least-first Fits {number} {line} above f least = record { fits = f; none = earli
     earlier n l (inr (inl h)) g = omega (arith, h .1, least n l g)
     earlier n l (inr (inr h)) g = omega (arith, h .1 .0)
 
--- ---- judging a set
+-- ---- a call that is handed a set
+
+module _ (text : List ℕ) (S : ℕ) (TooFew : Type 0) where
+  asked-zero : (number line : ℕ) → AskedFits text S TooFew number line → 9 < number → line ≡ 0
+  asked-zero number line (asked-text f) h = absurd (omega (arith, text-most f))
+  asked-zero number line (set-beyond l) h = refl
+  asked-zero number line (bytes-fewer l) h = refl
+
+  asked-out : (number line : ℕ) → number ≤ 9 → AskedFits text S TooFew number line → FitsAt text number line
+  asked-out number line h (asked-text f) = f
+  asked-out number line h (set-beyond l) = absurd (omega arith)
+  asked-out number line h (bytes-fewer l) = absurd (omega arith)
+
+  -- It writes these new bytes.
+  module _ (new lent : List ℕ) (too-few : TooFew ↔ (length lent < length new)) where
+    -- which number it is, by cases: these say in which order 1 to 9, 10 and 11 are tried
+    numbers : AskedNumbers text S new lent (askedOutcome text S new lent)
+    numbers = asked-numbers text S new lent
+
+    rightly : {o : Outcome} → askedOutcome text S new lent ≡ o → Right (AskedFits text S TooFew) o
+        → Right (AskedFits text S TooFew) (askedOutcome text S new lent)
+    rightly e r = subst (Right (AskedFits text S TooFew)) (sym e) r
+
+    module _ (accepted : textOutcome text ≡ Accepted) (no-text : (number line : ℕ) → ¬ FitsAt text number line) where
+      from-ten : (n l : ℕ) → AskedFits text S TooFew n l → 10 ≤ n
+      from-ten n l (asked-text f) = absurd (no-text n l f)
+      from-ten n l (set-beyond h) = omega arith
+      from-ten n l (bytes-fewer h) = omega arith
+
+      from-eleven : S < 2 ^ rulesIn text → (n l : ℕ) → AskedFits text S TooFew n l → 11 ≤ n
+      from-eleven h n l (asked-text f) = absurd (no-text n l f)
+      from-eleven h n l (set-beyond k) = absurd (omega arith)
+      from-eleven h n l (bytes-fewer k) = omega arith
+
+      none-left : S < 2 ^ rulesIn text → length new ≤ length lent → (n l : ℕ) → ¬ AskedFits text S TooFew n l
+      none-left h k n l (asked-text f) = no-text n l f
+      none-left h k n l (set-beyond b) = omega arith
+      none-left h k n l (bytes-fewer b) = omega (arith, too-few .0 b)
+
+      by-length : S < 2 ^ rulesIn text → Dec (length lent < length new) → Right (AskedFits text S TooFew) (askedOutcome text S new lent)
+      by-length h (yes short) =
+          rightly (numbers .byLength accepted h short)
+          (fits-first (least-first (AskedFits text S TooFew) (omega arith) (bytes-fewer (too-few .1 short)) (from-eleven h)))
+      by-length h (no b) = rightly (numbers .byNone accepted h (omega arith)) (fits-none (none-left h (omega arith)))
+
+      by-set : Dec (S < 2 ^ rulesIn text) → Right (AskedFits text S TooFew) (askedOutcome text S new lent)
+      by-set (yes h) = by-length h (decLt (length lent) (length new))
+      by-set (no b) =
+          let h : 2 ^ rulesIn text ≤ S = omega arith in
+          rightly (numbers .bySet accepted h) (fits-first (least-first (AskedFits text S TooFew) (omega arith) (set-beyond h) from-ten))
+
+    asked-right : Right (AskedFits text S TooFew) (askedOutcome text S new lent)
+    unfolding textOutcome
+    asked-right = go refl (right-outcome text)
+      where
+        go : {o : Outcome} → textOutcome text ≡ o → RightOutcome text o → Right (AskedFits text S TooFew) (askedOutcome text S new lent)
+        go e (none-fits n) = by-set e n (decLt S (2 ^ rulesIn text))
+        go e (first-fits f) = rightly (numbers .byText _ _ e) (fits-first (text-first (AskedFits text S TooFew) (λ n l g. asked-text g) asked-out f))
 
 module _ (text : List ℕ) (S : ℕ) (lent : List ℕ) where
-  judge-zero : (number line : ℕ) → JudgeFits text S lent number line → 9 < number → line ≡ 0
-  judge-zero number line (judge-text f) h = absurd (omega (arith, text-most f))
-  judge-zero number line (set-beyond l) h = refl
-  judge-zero number line (trace-longer t l) h = refl
-
-  judge-out : (number line : ℕ) → number ≤ 9 → JudgeFits text S lent number line → FitsAt text number line
-  judge-out number line h (judge-text f) = f
-  judge-out number line h (set-beyond l) = absurd (omega arith)
-  judge-out number line h (trace-longer t l) = absurd (omega arith)
-
   M : System
   M = systemIn text S
 
-  -- a set whose trace is longer than the lent bytes is broken
+  -- A set whose trace is longer than the lent bytes is broken.
   its-trace : length lent < length (traceIn text S) → Trace M (traceIn text S)
   unfolding M traceIn
   its-trace l = go (holds M) refl
@@ -115,49 +163,22 @@ module _ (text : List ℕ) (S : ℕ) (lent : List ℕ) where
       go true e = absurd (omega (arith, ap length (judged M .held e)))
       go false e = judged M .broken e
 
-  -- which number it is, by cases: these say in which order 1 to 9, 10 and 11 are tried
-  numbers : JudgeNumbers text S lent (judgeOutcome text S lent)
-  numbers = judge-numbers text S lent
-
-  rightly : {o : Outcome} → judgeOutcome text S lent ≡ o → Right (JudgeFits text S lent) o → Right (JudgeFits text S lent) (judgeOutcome text S lent)
-  rightly e r = subst (Right (JudgeFits text S lent)) (sym e) r
-
-  module _ (accepted : textOutcome text ≡ Accepted) (no-text : (number line : ℕ) → ¬ FitsAt text number line) where
-    from-ten : (n l : ℕ) → JudgeFits text S lent n l → 10 ≤ n
-    from-ten n l (judge-text f) = absurd (no-text n l f)
-    from-ten n l (set-beyond h) = omega arith
-    from-ten n l (trace-longer t h) = omega arith
-
-    from-eleven : S < 2 ^ rulesIn text → (n l : ℕ) → JudgeFits text S lent n l → 11 ≤ n
-    from-eleven h n l (judge-text f) = absurd (no-text n l f)
-    from-eleven h n l (set-beyond k) = absurd (omega arith)
-    from-eleven h n l (trace-longer t k) = omega arith
-
-    none-left : S < 2 ^ rulesIn text → length (traceIn text S) ≤ length lent → (n l : ℕ) → ¬ JudgeFits text S lent n l
-    unfolding M traceIn
-    none-left h k n l (judge-text f) = no-text n l f
-    none-left h k n l (set-beyond b) = omega arith
-    none-left h k n l (trace-longer {run = run} t b) = omega (arith, ap length (judged M .only run t))
-
-    by-length : S < 2 ^ rulesIn text → Dec (length lent < length (traceIn text S)) → Right (JudgeFits text S lent) (judgeOutcome text S lent)
-    unfolding M
-    by-length h (yes short) =
-        rightly (numbers .byLength accepted h short) (fits-first (least-first (JudgeFits text S lent) (omega arith) (trace-longer (its-trace short) short) (from-eleven h)))
-    by-length h (no b) = rightly (numbers .byNone accepted h (omega arith)) (fits-none (none-left h (omega arith)))
-
-    by-set : Dec (S < 2 ^ rulesIn text) → Right (JudgeFits text S lent) (judgeOutcome text S lent)
-    by-set (yes h) = by-length h (decLt (length lent) (length (traceIn text S)))
-    by-set (no b) =
-        let h : 2 ^ rulesIn text ≤ S = omega arith in
-        rightly (numbers .bySet accepted h) (fits-first (least-first (JudgeFits text S lent) (omega arith) (set-beyond h) from-ten))
+  trace-longer : TraceLonger text S lent ↔ (length lent < length (traceIn text S))
+  unfolding M traceIn
+  trace-longer = (
+    λ t. omega (arith, t .longer, ap length (judged M .only (t .run) (t .trace))),
+    λ l. record { run = traceIn text S; trace = its-trace l; longer = l },
+  )
 
   judge-right : Right (JudgeFits text S lent) (judgeOutcome text S lent)
-  unfolding textOutcome
-  judge-right = go refl (right-outcome text)
-    where
-      go : {o : Outcome} → textOutcome text ≡ o → RightOutcome text o → Right (JudgeFits text S lent) (judgeOutcome text S lent)
-      go e (none-fits n) = by-set e n (decLt S (2 ^ rulesIn text))
-      go e (first-fits f) = rightly (numbers .byText _ _ e) (fits-first (text-first (JudgeFits text S lent) (λ n l g. judge-text g) judge-out f))
+  unfolding judgeOutcome
+  judge-right = asked-right text S (TraceLonger text S lent) (traceIn text S) lent trace-longer
+
+  reached-right : Right (ReachedFits text S lent) (reachedOutcome text S lent)
+  unfolding reachedOutcome
+  reached-right =
+      asked-right text S (length lent < statesIn text) (marksIn text S) lent
+      (λ l. omega (arith, l, length-marks text S), λ l. omega (arith, l, length-marks text S))
 
 -- ---- listing sets
 
@@ -276,11 +297,14 @@ module _ (text : List ℕ) where
   set-other S number line q = let z : _≡_ {A = ℕ} 0 1 = cc in omega arith
 
   pub calls-meet-demand1 : Demand1 text
-  unfolding judgeAnswer judgeBytes listAnswer listBytes kindAnswer judgeParts listParts setParts
+  unfolding judgeAnswer judgeBytes reachedAnswer reachedBytes listAnswer listBytes kindAnswer judgeParts reachedParts listParts setParts
   calls-meet-demand1 =
       record {
         judge = λ S lent.
-            refusals (judge-zero text S lent) JudgeRefused judgeParts (λ n l. refl) _ (not-refused (systemIn text S)) (λ n l k j q. cc) (judge-right text S lent) (traceIn text S) lent;
+            refusals (asked-zero text S (TraceLonger text S lent)) JudgeRefused judgeParts (λ n l. refl) _ (not-refused (systemIn text S)) (λ n l k j q. cc) (judge-right text S lent) (traceIn text S) lent;
+        reached = λ S lent.
+            refusals (asked-zero text S (length lent < statesIn text)) ReachedRefused reachedParts (λ n l. refl) _ (pairs-told (pairsIn text S)) (λ n l k j q. cc)
+            (reached-right text S lent) (marksIn text S) lent;
         list = λ which lent.
             refusals (list-zero which text lent) ListRefused listParts (λ n l. refl) _ (count-other (length (listIn which text))) (λ n l k j q. cc) (list-right which text lent)
             (bytesOf (listIn which text)) lent;
@@ -290,12 +314,15 @@ module _ (text : List ℕ) where
       }
 
   pub hosts-meet-demand1 : HostDemand1 text
-  unfolding judgeAnswer judgeBytes listAnswer listBytes kindAnswer judgeParts listParts setParts
+  unfolding judgeAnswer judgeBytes reachedAnswer reachedBytes listAnswer listBytes kindAnswer judgeParts reachedParts listParts setParts
   hosts-meet-demand1 =
       record {
         judge = λ S lent.
-            host-refusals (judge-zero text S lent) JudgeRefused judgeParts (λ n l. refl) _ (not-refused (systemIn text S)) (λ n l k j q. cc) (judge-right text S lent) (traceIn text S) lent
+            host-refusals (asked-zero text S (TraceLonger text S lent)) JudgeRefused judgeParts (λ n l. refl) _ (not-refused (systemIn text S)) (λ n l k j q. cc) (judge-right text S lent) (traceIn text S) lent
             (judge-reads text S lent);
+        reached = λ S lent.
+            host-refusals (asked-zero text S (length lent < statesIn text)) ReachedRefused reachedParts (λ n l. refl) _ (pairs-told (pairsIn text S)) (λ n l k j q. cc)
+            (reached-right text S lent) (marksIn text S) lent (reached-reads text S lent);
         list = λ which lent.
             host-refusals (list-zero which text lent) ListRefused listParts (λ n l. refl) _ (count-other (length (listIn which text))) (λ n l k j q. cc) (list-right which text lent)
             (bytesOf (listIn which text)) lent (list-reads which text lent);

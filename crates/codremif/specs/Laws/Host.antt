@@ -1,5 +1,5 @@
 -- What a C host can read from the one number that a call gives it: every part of the answer, and by number 0 whether the call was accepted.
--- From how large the parts can be: a trace has at most 128 states, a list at most 2^16 sets, a set of rules is below 2^16; and from one bound on the
+-- From how large the parts can be: a trace has at most 128 states, at most 128 * 128 pairs are tried, a list has at most 2^16 sets, a set of rules is below 2^16; and from one bound on the
 -- numbers and lines of refusals, below 256. Assumes nothing.
 use Prim.Native.Nat.{ℕ, _^_, _≤_, _<_}
 use mathlib.Core.Path.{_≡_, refl}
@@ -19,12 +19,13 @@ use Rattle.systems.specs.Verdict.{holds, traceOf}
 use Rattle.sorting.specs.declared.which.WhichList.{WhichList}
 use Rattle.sorting.specs.declared.kinds.Kind.{Kind}
 use Rattle.calls.specs.declared.answers.JudgeAnswer.the-variants.{Refused as JudgeRefused, Holds, Broken}
+use Rattle.calls.specs.declared.answers.ReachedAnswer.the-variants.{Refused as ReachedRefused}
 use Rattle.calls.specs.declared.answers.ListAnswer.the-variants.{Refused as ListRefused}
 use Rattle.calls.specs.declared.answers.SetAnswer.the-variants.{Refused as SetRefused}
-use Rattle.calls.specs.Answers.{rulesIn, systemIn, traceIn, listIn, kindIn, _orElse_, refusedIf, textOutcome, judgeOutcome, listOutcome, given, verdictOf, judgeAnswer, listAnswer, kindAnswer}
-use Rattle.codremif.specs.Packing.{InRange, Parts, accepted, refused, judgeParts, listParts, setParts, packed, Unpacked}
+use Rattle.calls.specs.Answers.{rulesIn, systemIn, traceIn, marksIn, pairsIn, listIn, kindIn, _orElse_, refusedIf, textOutcome, askedOutcome, judgeOutcome, reachedOutcome, listOutcome, given, verdictOf, judgeAnswer, reachedAnswer, listAnswer, kindAnswer}
+use Rattle.codremif.specs.Packing.{InRange, Parts, accepted, refused, judgeParts, reachedParts, listParts, setParts, packed, Unpacked}
 use Rattle.calls.specs.Laws.Answers.{rules-most}
-use Rattle.calls.specs.Laws.Sizes.{trace-le, list-le, kind-lt}
+use Rattle.calls.specs.Laws.Sizes.{trace-le, pairs-le, list-le, kind-lt}
 use Rattle.codremif.specs.Laws.Packing.{unpacked}
 
 -- ---- the numbers and lines of refusals
@@ -54,12 +55,12 @@ unfolding _orElse_
 orElse-numbered none n = n
 orElse-numbered (one l h g) n = one l h g
 
-judge-numbered : (text : List ℕ) (S : ℕ) (lent : List ℕ) → Numbered (judgeOutcome text S lent)
-unfolding judgeOutcome
-judge-numbered text S lent =
+asked-numbered : (text : List ℕ) (S : ℕ) (new lent : List ℕ) → Numbered (askedOutcome text S new lent)
+unfolding askedOutcome
+asked-numbered text S new lent =
     orElse-numbered (text-numbered text)
     (orElse-numbered (refusedIf-numbered (leb (2 ^ rulesIn text) S) 10 (omega arith) (omega arith))
-    (refusedIf-numbered (ltb (length lent) (length (traceIn text S))) 11 (omega arith) (omega arith)))
+    (refusedIf-numbered (ltb (length lent) (length new)) 11 (omega arith) (omega arith)))
 
 list-numbered : (which : WhichList) (text lent : List ℕ) → Numbered (listOutcome which text lent)
 unfolding listOutcome
@@ -96,13 +97,19 @@ given-reads refuse parts told a reads none = reads
 given-reads refuse parts told a reads (one {number} {line} l h g) = rw (told number line) (refused-reads number line l h g)
 
 pub judge-reads : (text : List ℕ) (S : ℕ) (lent : List ℕ) → HostReads (judgeOutcome text S lent) (judgeParts (judgeAnswer text S lent))
-unfolding judgeAnswer judgeParts verdictOf traceIn
+unfolding judgeAnswer judgeOutcome judgeParts verdictOf traceIn
 judge-reads text S lent =
-    given-reads JudgeRefused judgeParts (λ number line. refl) _ (go (holds (systemIn text S))) (judge-numbered text S lent)
+    given-reads JudgeRefused judgeParts (λ number line. refl) _ (go (holds (systemIn text S))) (asked-numbered text S (traceIn text S) lent)
   where
     go : (b : Bool) → HostReads Accepted (judgeParts (cond b Holds (Broken (length (traceOf (systemIn text S))))))
     go true = accepted-reads 0 true (omega arith)
     go false = accepted-reads (length (traceOf (systemIn text S))) false (omega (arith, trace-le text S))
+
+pub reached-reads : (text : List ℕ) (S : ℕ) (lent : List ℕ) → HostReads (reachedOutcome text S lent) (reachedParts (reachedAnswer text S lent))
+unfolding reachedAnswer reachedOutcome reachedParts
+reached-reads text S lent =
+    given-reads ReachedRefused reachedParts (λ number line. refl) _
+    (accepted-reads (pairsIn text S) false (omega (arith, pairs-le text S))) (asked-numbered text S (marksIn text S) lent)
 
 pub list-reads : (which : WhichList) (text lent : List ℕ) → HostReads (listOutcome which text lent) (listParts (listAnswer which text lent))
 unfolding listAnswer listParts

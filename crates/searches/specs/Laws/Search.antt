@@ -6,27 +6,27 @@ use mathlib.Core.Path.{_≡_, refl, sym, ap, _∙_}
 use mathlib.Core.Logic.{_↔_, _≢_, inl, inr, ⊎-elim, ⊎-map}
 use mathlib.Core.Bool.{Bool, true, false, _||_, or-false, true≢false}
 use mathlib.Core.List.{List, [], _∷_, _++_}
-use mathlib.Mathlib.Data.Bool.Basic.{dichotomy, or-inr, eq-false-of-not-eq-true}
+use mathlib.Mathlib.Data.Bool.Basic.{dichotomy, or-inr, eq-false-of-not-eq-true, eq-true-of-not-eq-false}
 use native.Mathlib.Nat.{eq-or-lt-of-le}
 use native.Mathlib.Omega.{arith}
 use native.Mathlib.Numerals.{add-one}
 use borrow.Author.Count.{below-more}
-use borrow.Author.Tests.{eq-eqb, ne-eqb, ltb-true, ltb-false, leb-true, leb-false}
+use borrow.Author.Tests.{eq-eqb, ne-eqb, eqb-true, eqb-false, ltb-true, ltb-false, leb-true, leb-false}
 use lib.Dec.{eqb, leb, ltb}
 use lib.ListN.{length, getD, length-append, List·getD-append, List·getD-eq-default}
 use lib.Seq.{getD-append-seam}
 use Rattle.systems.specs.Least.{least}
 use Rattle.systems.specs.Laws.Least.{IsLeast, least-is-least}
 use Rattle.systems.specs.Count.{count}
-use Rattle.systems.specs.Laws.Count.{count-le, count-none, count-one-more}
+use Rattle.systems.specs.Laws.Count.{count-le, count-less, count-none, count-one-more}
 use Rattle.systems.specs.System.{System, last, Run, Breach, Reached, Trace}
 use Rattle.systems.specs.Laws.Walks.{walk-one, walk-snoc, walk-last, last-snoc}
 use Rattle.systems.specs.Verdict.{holds, traceOf}
 use Rattle.systems.specs.Judged.{judged}
 use Rattle.systems.specs.Laws.Holds.{holds-iff}
-use Rattle.searches.specs.Search.{isMarked, tryState, tryRow, explored, search}
+use Rattle.searches.specs.Search.{Collection, isMarked, tryState, startsBelow, tryPair, tryRow, explored, search}
 use Rattle.searches.specs.Laws.Sooner.{Sooner, sooner-trans, sooner-snoc, sooner-last, walk-grows, NoLater, no-later-trans, no-later-snoc, no-later-length, no-later-first}
-use Rattle.searches.specs.Laws.SearchSteps.{RunTo, isMarked-nil, isMarked-snoc, isMarked-at, isMarked-run, tryState-taken, tryState-fails, tryState-marked, explored-zero, explored-next, explored-ended, explored-stays}
+use Rattle.searches.specs.Laws.SearchSteps.{RunTo, isMarked-nil, isMarked-snoc, isMarked-at, isMarked-run, tryState-taken, tryState-fails, tryState-marked, by-pair, explored-zero, by-run, explored-stays}
 
 -- ---- a list with one run more
 
@@ -131,6 +131,12 @@ module _ {M : System} {q : List (List ℕ)} (f : Collected M q) where
   collected-short : length q ≤ M .size
   collected-short = omega (arith, f .counted, count-le (M .size) (isMarked q))
 
+  -- all are marked where there are as many,
+  pub collected-full : length q ≡ M .size → (t : ℕ) → t < M .size → isMarked q t ≡ true
+  collected-full full t h =
+      eq-true-of-not-eq-false
+      (λ e. omega (arith, f .counted, count-less (isMarked q) (M .size) t h e))
+
   -- and what is no state is not marked.
   pub collected-states : (s : ℕ) → M .size ≤ s → isMarked q s ≡ false
   collected-states s h = eq-false-of-not-eq-true none
@@ -152,27 +158,28 @@ record Row (M : System) (next : ℕ → Bool) (r : List ℕ) (q : List (List ℕ
 
 module _ {M : System} {next : ℕ → Bool} {r : List ℕ} {q : List (List ℕ)}
     (fits : (t : ℕ) → t < M .size → next t ≡ true → Run M (r ++ (t ∷ []))) where
+  -- A state that does not pass the test, or is marked, is passed over;
+  row-skipped : (t : ℕ) (p : List (List ℕ)) → (next t ≡ true → RunTo p t) → Row M next r q t p → Row M next r q (suc t) p
+  row-skipped t p marked w = record {
+    collected = w .collected;
+    extends = w .extends;
+    front = λ k u g i. w .front k u g (omega arith);
+    tried = λ u g. below-more (λ u. next u ≡ true → Ahead p (r ++ (u ∷ []))) t (w .tried) here u (omega arith);
+  }
+    where
+      here : next t ≡ true → Ahead p (r ++ (t ∷ []))
+      here e =
+          let m : RunTo p t = marked e in
+          record {
+            place = m .place;
+            within = m .within;
+            ends = m .ends ∙ sym (last-snoc r t);
+            sooner = inr (w .front (m .place) t (m .within) (omega arith));
+          }
+
   row-state : (t : ℕ) (p : List (List ℕ)) → t < M .size → Row M next r q t p → Row M next r q (suc t) (tryState next r t p)
   row-state t p h w = go (next t) (isMarked p t) refl refl
     where
-      skipped : (next t ≡ true → RunTo p t) → Row M next r q (suc t) p
-      skipped marked = record {
-        collected = w .collected;
-        extends = w .extends;
-        front = λ k u g i. w .front k u g (omega arith);
-        tried = λ u g. below-more (λ u. next u ≡ true → Ahead p (r ++ (u ∷ []))) t (w .tried) here u (omega arith);
-      }
-        where
-          here : next t ≡ true → Ahead p (r ++ (t ∷ []))
-          here e =
-              let m : RunTo p t = marked e in
-              record {
-                place = m .place;
-                within = m .within;
-                ends = m .ends ∙ sym (last-snoc r t);
-                sooner = inr (w .front (m .place) t (m .within) (omega arith));
-              }
-
       taken : next t ≡ true → isMarked p t ≡ false → Row M next r q (suc t) (p ++ ((r ++ (t ∷ [])) ∷ []))
       taken e f =
           let x : List ℕ = r ++ (t ∷ []) in
@@ -187,14 +194,20 @@ module _ {M : System} {next : ℕ → Bool} {r : List ℕ} {q : List (List ℕ)}
           }
 
       go : (a b : Bool) → next t ≡ a → isMarked p t ≡ b → Row M next r q (suc t) (tryState next r t p)
-      go false b e f = rw (tryState-fails next r t p e) (skipped (λ g. absurd (true≢false (sym g ∙ e))))
-      go true true e f = rw (tryState-marked next r t p f) (skipped (λ _. isMarked-run p t f))
+      go false b e f = rw (tryState-fails next r t p e) (row-skipped t p (λ g. absurd (true≢false (sym g ∙ e))) w)
+      go true true e f = rw (tryState-marked next r t p f) (row-skipped t p (λ _. isMarked-run p t f) w)
       go true false e f = rw (tryState-taken next r t p e f) (taken e f)
 
-  row : Row M next r q 0 q → (n : ℕ) → n ≤ M .size → Row M next r q n (tryRow next r n q)
+  -- and once every state is marked, so is every state that is left.
+  row-pair : (t : ℕ) (c : Collection) → t < M .size → Row M next r q t (c .runs) → Row M next r q (suc t) (tryPair (M .size) next r t c .runs)
+  row-pair t c h w =
+      by-pair (M .size) next r (λ d. Row M next r q (suc t) (d .runs)) t c
+      (λ full. row-skipped t (c .runs) (λ _. isMarked-run (c .runs) t (collected-full (w .collected) full t h)) w) (row-state t (c .runs) h w)
+
+  row : (c : Collection) → Row M next r q 0 (c .runs) → (n : ℕ) → n ≤ M .size → Row M next r q n (tryRow (M .size) next r n c .runs)
   unfolding tryRow
-  row begun zero h = begun
-  row begun (suc n) h = row-state n (tryRow next r n q) (omega arith) (row begun n (omega arith))
+  row c begun zero h = begun
+  row c begun (suc n) h = row-pair n (tryRow (M .size) next r n c) (omega arith) (row c begun n (omega arith))
 
 -- ---- the first i runs tried
 
@@ -208,15 +221,17 @@ record Explored (M : System) (i : ℕ) (q : List (List ℕ)) : Type 0 where
   front : i < length q → (k t : ℕ) → k < length q → Sooner (getD q k []) (getD q i [] ++ (t ∷ []))
 
 -- The start states are tried behind no state at all.
-start-row : (M : System) (n : ℕ) → n ≤ M .size → Row M (M .start) [] [] n (tryRow (M .start) [] n [])
-start-row M = row (λ t h e. walk-one h e) (record {
+start-row : (M : System) (n : ℕ) → n ≤ M .size → Row M (M .start) [] [] n (startsBelow (M .start) n)
+unfolding startsBelow
+start-row M zero h = record {
   collected = collected-nil M;
   extends = extends-refl [];
   front = λ k t h. absurd (omega arith);
   tried = λ t h. absurd (omega arith);
-})
+}
+start-row M (suc n) h = row-state (λ t h e. walk-one h e) n (startsBelow (M .start) n) (omega arith) (start-row M n (omega arith))
 
-explored-starts : (M : System) → Explored M 0 (tryRow (M .start) [] (M .size) [])
+explored-starts : (M : System) → Explored M 0 (startsBelow (M .start) (M .size))
 explored-starts M = record {
   collected = w .collected;
   starts = w .tried;
@@ -224,24 +239,27 @@ explored-starts M = record {
   front = λ h k t g. sooner-trans (w .front k (M .size) g (omega arith)) (sooner-snoc (M .size) t (no-state h));
 }
   where
-    w : Row M (M .start) [] [] (M .size) (tryRow (M .start) [] (M .size) [])
+    w : Row M (M .start) [] [] (M .size) (startsBelow (M .start) (M .size))
     w = start-row M (M .size) (omega arith)
 
-    no-state : 0 < length (tryRow (M .start) [] (M .size) []) → Sooner [] (getD (tryRow (M .start) [] (M .size) []) 0 [])
+    no-state : 0 < length (startsBelow (M .start) (M .size)) → Sooner [] (getD (startsBelow (M .start) (M .size)) 0 [])
     no-state h = record { shorter = omega arith; earlier = λ e. absurd (omega (arith, w .collected .runs 0 h .nonempty)) }
 
 -- The states are tried behind the next run.
-module _ {M : System} {i : ℕ} {q : List (List ℕ)} (x : Explored M i q) (h : i < length q) where
+module _ {M : System} {i : ℕ} (c : Collection) (x : Explored M i (c .runs)) (h : i < length (c .runs)) where
+  abbrev q : List (List ℕ)
+  q = c .runs
+
   next-row : (n : ℕ) → n ≤ M .size
-      → Row M (M .step (last (getD q i []))) (getD q i []) q n (tryRow (M .step (last (getD q i []))) (getD q i []) n q)
-  next-row = row (λ t b e. walk-snoc (getD q i []) (x .collected .runs i h) b e) (record {
+      → Row M (M .step (last (getD q i []))) (getD q i []) q n (tryRow (M .size) (M .step (last (getD q i []))) (getD q i []) n c .runs)
+  next-row = row (λ t b e. walk-snoc (getD q i []) (x .collected .runs i h) b e) c (record {
     collected = x .collected;
     extends = extends-refl q;
     front = λ k t b _. x .front h k t b;
     tried = λ t b. absurd (omega arith);
   })
 
-  explored-more : Explored M (i + 1) (tryRow (M .step (last (getD q i []))) (getD q i []) (M .size) q)
+  explored-more : Explored M (i + 1) (tryRow (M .size) (M .step (last (getD q i []))) (getD q i []) (M .size) c .runs)
   explored-more = record {
     collected = w .collected;
     starts = λ s g e. ahead-kept (w .extends) (x .starts s g e);
@@ -252,7 +270,7 @@ module _ {M : System} {i : ℕ} {q : List (List ℕ)} (x : Explored M i q) (h : 
   }
     where
       p : List (List ℕ)
-      p = tryRow (M .step (last (getD q i []))) (getD q i []) (M .size) q
+      p = tryRow (M .size) (M .step (last (getD q i []))) (getD q i []) (M .size) c .runs
 
       w : Row M (M .step (last (getD q i []))) (getD q i []) q (M .size) p
       w = next-row (M .size) (omega arith)
@@ -268,40 +286,41 @@ module _ {M : System} {i : ℕ} {q : List (List ℕ)} (x : Explored M i q) (h : 
           let k : getD p j [] ≡ getD q j [] = same j (omega arith) in
           rw k (ahead-kept (w .extends) (x .closed j g (omega arith) t b (rw k at e)))
 
-explored-is : (M : System) (i : ℕ) → Explored M i (explored M i)
+explored-is : (M : System) (i : ℕ) → Explored M i (explored M i .runs)
 explored-is M zero = rw (explored-zero M) (explored-starts M)
 explored-is M (suc i) = go (explored-is M i)
   where
-    go : Explored M i (explored M i) → Explored M (suc i) (explored M (suc i))
-    go x = rw (← add-one i) (⊎-elim ended more (dichotomy (ltb i (length (explored M i)))))
+    go : Explored M i (explored M i .runs) → Explored M (suc i) (explored M (suc i) .runs)
+    go x = rw (← add-one i) (by-run M (λ c. Explored M (i + 1) (c .runs)) i ended (explored-more (explored M i) x))
       where
-        ended : ltb i (length (explored M i)) ≡ false → Explored M (i + 1) (explored M (i + 1))
-        ended e =
-            let h : length (explored M i) ≤ i = ltb-false i (length (explored M i)) e in
-            rw (explored-ended M i h) (record {
-              collected = x .collected;
-              starts = x .starts;
-              closed = λ j _ g. x .closed j (omega arith) g;
-              front = λ g. absurd (omega arith);
-            })
-
-        more : ltb i (length (explored M i)) ≡ true → Explored M (i + 1) (explored M (i + 1))
-        more e =
-            let h : i < length (explored M i) = ltb-true i (length (explored M i)) e in
-            rw (explored-next M i h) (explored-more x h)
+        ended : length (explored M i .runs) ≤ i → Explored M (i + 1) (explored M i .runs)
+        ended h = record {
+          collected = x .collected;
+          starts = x .starts;
+          closed = λ j _ g. x .closed j (omega arith) g;
+          front = λ g. absurd (omega arith);
+        }
 
 -- ---- the theorems
 
 module _ (M : System) where
   -- At any time the runs found are runs, each sooner than the next, to as many states.
-  pub explored-collected : (i : ℕ) → Collected M (explored M i)
+  pub explored-collected : (i : ℕ) → Collected M (explored M i .runs)
   explored-collected i = explored-is M i .collected
 
-  pub explored-short : (i : ℕ) → length (explored M i) ≤ M .size
+  -- A state a step away from the last state of a tried run is marked.
+  pub explored-closed : (i j : ℕ) → j < i → j < length (explored M i .runs) → (t : ℕ) → t < M .size
+      → M .step (last (getD (explored M i .runs) j [])) t ≡ true → isMarked (explored M i .runs) t ≡ true
+  explored-closed i j h g t b e =
+      let q : List (List ℕ) = explored M i .runs in
+      let a : Ahead q (getD q j [] ++ (t ∷ [])) = explored-is M i .closed j h g t b e in
+      sym (ap (isMarked q) (a .ends ∙ last-snoc (getD q j []) t)) ∙ isMarked-at q (a .place) (a .within)
+
+  pub explored-short : (i : ℕ) → length (explored M i .runs) ≤ M .size
   explored-short i = collected-short (explored-collected i)
 
   -- The search has ended as soon as every run found has been tried.
-  pub search-ended : (i : ℕ) → length (explored M i) ≤ i → search M ≡ explored M i
+  pub search-ended : (i : ℕ) → length (explored M i .runs) ≤ i → search M ≡ explored M i
   unfolding search
   search-ended i h = ⊎-elim late soon (dichotomy (leb i (M .size)))
     where
@@ -311,22 +330,22 @@ module _ (M : System) where
       late : leb i (M .size) ≡ false → explored M (M .size) ≡ explored M i
       late e = sym (explored-stays M (M .size) (explored-short (M .size)) i (omega (arith, leb-false i (M .size) e)))
 
-  pub search-collected : Collected M (search M)
+  pub search-collected : Collected M (search M .runs)
   unfolding search
   search-collected = explored-collected (M .size)
 
   -- Every run of M has a run found to the same state that is no later.
-  search-ahead : (r : List ℕ) → Run M r → Ahead (search M) r
+  search-ahead : (r : List ℕ) → Run M r → Ahead (search M .runs) r
   unfolding search
-  search-ahead = walk-grows M (Ahead (explored M (M .size))) further (M .start) (explored-is M (M .size) .starts)
+  search-ahead = walk-grows M (Ahead (explored M (M .size) .runs)) further (M .start) (explored-is M (M .size) .starts)
     where
-      further : (l : List ℕ) (t : ℕ) → t < M .size → Ahead (explored M (M .size)) l → M .step (last l) t ≡ true
-          → Ahead (explored M (M .size)) (l ++ (t ∷ []))
+      further : (l : List ℕ) (t : ℕ) → t < M .size → Ahead (explored M (M .size) .runs) l → M .step (last l) t ≡ true
+          → Ahead (explored M (M .size) .runs) (l ++ (t ∷ []))
       further l t h a e =
-          let k : List ℕ = getD (explored M (M .size)) (a .place) [] in
+          let k : List ℕ = getD (explored M (M .size) .runs) (a .place) [] in
           let tried : a .place < M .size = omega (arith, a .within, explored-short (M .size)) in
           let f : M .step (last k) t ≡ true = ap (λ s. M .step s t) (a .ends) ∙ e in
-          let c : Ahead (explored M (M .size)) (k ++ (t ∷ [])) = explored-is M (M .size) .closed (a .place) tried (a .within) t h f in
+          let c : Ahead (explored M (M .size) .runs) (k ++ (t ∷ [])) = explored-is M (M .size) .closed (a .place) tried (a .within) t h f in
           record {
             place = c .place;
             within = c .within;
@@ -335,68 +354,68 @@ module _ (M : System) where
           }
 
   -- The marks are the reached states.
-  pub marks : (s : ℕ) → (isMarked (search M) s ≡ true) ↔ Reached M s
+  pub marks : (s : ℕ) → (isMarked (search M .runs) s ≡ true) ↔ Reached M s
   marks s = (reached, marked)
     where
-      reached : isMarked (search M) s ≡ true → Reached M s
+      reached : isMarked (search M .runs) s ≡ true → Reached M s
       reached e =
-          let m : RunTo (search M) s = isMarked-run (search M) s e in
-          record { path = getD (search M) (m .place) []; run = search-collected .runs (m .place) (m .within); ends = m .ends }
+          let m : RunTo (search M .runs) s = isMarked-run (search M .runs) s e in
+          record { path = getD (search M .runs) (m .place) []; run = search-collected .runs (m .place) (m .within); ends = m .ends }
 
-      marked : Reached M s → isMarked (search M) s ≡ true
+      marked : Reached M s → isMarked (search M .runs) s ≡ true
       marked r =
-          let a : Ahead (search M) (r .path) = search-ahead (r .path) (r .run) in
-          sym (ap (isMarked (search M)) (a .ends ∙ r .ends)) ∙ isMarked-at (search M) (a .place) (a .within)
+          let a : Ahead (search M .runs) (r .path) = search-ahead (r .path) (r .run) in
+          sym (ap (isMarked (search M .runs)) (a .ends ∙ r .ends)) ∙ isMarked-at (search M .runs) (a .place) (a .within)
 
   -- The system holds exactly if no marked state is bad.
-  holds-marks : (holds M ≡ true) ↔ ((s : ℕ) → isMarked (search M) s ≡ true → M .bad s ≡ false)
+  holds-marks : (holds M ≡ true) ↔ ((s : ℕ) → isMarked (search M .runs) s ≡ true → M .bad s ≡ false)
   holds-marks = (
     λ e s m. holds-iff M .0 e .good s (marks s .0 m),
     λ none. holds-iff M .1 (record { good = λ s r. none s (marks s .1 r) }),
   )
 
   -- The run found at place j ends in a bad state, and no run found before it does: then it is the trace.
-  search-first : (j : ℕ) → j < length (search M) → M .bad (last (getD (search M) j [])) ≡ true
-      → ((k : ℕ) → k < j → M .bad (last (getD (search M) k [])) ≡ false) → Trace M (getD (search M) j [])
+  search-first : (j : ℕ) → j < length (search M .runs) → M .bad (last (getD (search M .runs) j [])) ≡ true
+      → ((k : ℕ) → k < j → M .bad (last (getD (search M .runs) k [])) ≡ false) → Trace M (getD (search M .runs) j [])
   search-first j h e none = record {
     breach = record { walk = search-collected .runs j h; ends = e };
     shortest = λ m b. no-later-length (no-later m b);
     first = λ m b g. no-later-first (no-later m b) (sym g);
   }
     where
-      no-later : (m : List ℕ) → Breach M m → NoLater (getD (search M) j []) m
+      no-later : (m : List ℕ) → Breach M m → NoLater (getD (search M .runs) j []) m
       no-later m b =
-          let a : Ahead (search M) m = search-ahead m (b .walk) in
+          let a : Ahead (search M .runs) m = search-ahead m (b .walk) in
           let not-before : ¬ (a .place < j) = λ g. true≢false (sym (b .ends) ∙ sym (ap (M .bad) (a .ends)) ∙ none (a .place) g) in
           no-later-trans
-          (⊎-map (ap (λ k. getD (search M) k [])) (λ g. search-collected .ordered j (a .place) g (a .within))
+          (⊎-map (ap (λ k. getD (search M .runs) k [])) (λ g. search-collected .ordered j (a .place) g (a .within))
           (eq-or-lt-of-le {n = j} {m = a .place} (omega arith)))
           (a .sooner)
 
   -- The first run found that ends in a bad state is the trace; where there is none, the trace has no state.
-  pub search-trace : getD (search M) (least (length (search M)) (λ k. M .bad (last (getD (search M) k [])))) [] ≡ traceOf M
-  search-trace = ⊎-elim held broken (dichotomy (ltb j (length (search M))))
+  pub search-trace : getD (search M .runs) (least (length (search M .runs)) (λ k. M .bad (last (getD (search M .runs) k [])))) [] ≡ traceOf M
+  search-trace = ⊎-elim held broken (dichotomy (ltb j (length (search M .runs))))
     where
       test : ℕ → Bool
-      test k = M .bad (last (getD (search M) k []))
+      test k = M .bad (last (getD (search M .runs) k []))
 
       j : ℕ
-      j = least (length (search M)) test
+      j = least (length (search M .runs)) test
 
-      is : IsLeast (length (search M)) test j
-      is = least-is-least (length (search M)) test
+      is : IsLeast (length (search M .runs)) test j
+      is = least-is-least (length (search M .runs)) test
 
-      broken : ltb j (length (search M)) ≡ true → getD (search M) j [] ≡ traceOf M
+      broken : ltb j (length (search M .runs)) ≡ true → getD (search M .runs) j [] ≡ traceOf M
       broken e =
-          let h : j < length (search M) = ltb-true j (length (search M)) e in
-          judged M .only (getD (search M) j []) (search-first j h (is .passes h) (is .before))
+          let h : j < length (search M .runs) = ltb-true j (length (search M .runs)) e in
+          judged M .only (getD (search M .runs) j []) (search-first j h (is .passes h) (is .before))
 
-      good : length (search M) ≤ j → (s : ℕ) → isMarked (search M) s ≡ true → M .bad s ≡ false
+      good : length (search M .runs) ≤ j → (s : ℕ) → isMarked (search M .runs) s ≡ true → M .bad s ≡ false
       good h s m =
-          let r : RunTo (search M) s = isMarked-run (search M) s m in
+          let r : RunTo (search M .runs) s = isMarked-run (search M .runs) s m in
           ap (M .bad) (sym (r .ends)) ∙ is .before (r .place) (omega (arith, r .within))
 
-      held : ltb j (length (search M)) ≡ false → getD (search M) j [] ≡ traceOf M
+      held : ltb j (length (search M .runs)) ≡ false → getD (search M .runs) j [] ≡ traceOf M
       held e =
-          let h : length (search M) ≤ j = ltb-false j (length (search M)) e in
-          List·getD-eq-default (search M) [] h ∙ sym (judged M .held (holds-marks .1 (good h)))
+          let h : length (search M .runs) ≤ j = ltb-false j (length (search M .runs)) e in
+          List·getD-eq-default (search M .runs) [] h ∙ sym (judged M .held (holds-marks .1 (good h)))

@@ -2,17 +2,20 @@
 -- and when the search may stop. From the definitions and the laws of lists. Assumes nothing.
 use Prim.Native.Nat.{ℕ, zero, suc, _+_, _≤_, _<_}
 use mathlib.Core.Path.{_≡_, refl, sym, ap, ap₂, _∙_}
+use mathlib.Core.Logic.{_≢_, ⊎-elim}
 use mathlib.Core.Bool.{Bool, true, false, not, cond, _&&_, _||_, or-assoc, or-false, and-false, false≢true}
 use mathlib.Core.List.{List, [], _∷_, _++_}
-use mathlib.Mathlib.Data.Bool.Basic.{or-inr}
+use mathlib.Mathlib.Data.Bool.Basic.{dichotomy, or-inr}
 use native.Mathlib.Decide.{le-ind}
 use native.Mathlib.Omega.{arith}
 use native.Mathlib.Numerals.{add-one}
-use borrow.Author.Tests.{eqb-true, eq-eqb, lt-ltb, le-ltb}
-use lib.Dec.{eqb}
-use lib.ListN.{length, getD}
+use borrow.Author.Tests.{eqb-true, eqb-false, eq-eqb, ne-eqb, lt-ltb, le-ltb, ltb-true, ltb-false}
+use lib.Dec.{eqb, ltb}
+use lib.ListN.{length, getD, length-append}
+use Rattle.sets.specs.Gathered.{one}
+use Rattle.systems.specs.Count.{count}
 use Rattle.systems.specs.System.{System, last}
-use Rattle.searches.specs.Search.{isMarked, tryState, tryRow, explored}
+use Rattle.searches.specs.Search.{Collection, isMarked, tryState, startsBelow, tryPair, tryRow, explored}
 
 -- ---- marks
 
@@ -69,32 +72,122 @@ module _ (next : ℕ → Bool) (r : List ℕ) where
   tryState-marked t q e =
       ap (λ b. cond (next t && not b) (q ++ ((r ++ (t ∷ [])) ∷ [])) q) e ∙ ap (λ a. cond a (q ++ ((r ++ (t ∷ [])) ∷ [])) q) (and-false (next t))
 
-  pub tryRow-zero : (q : List (List ℕ)) → tryRow next r 0 q ≡ q
-  unfolding tryRow
-  tryRow-zero q = refl
+-- The start states, one by one.
+module _ (start : ℕ → Bool) where
+  pub startsBelow-zero : startsBelow start 0 ≡ []
+  unfolding startsBelow
+  startsBelow-zero = refl
 
-  pub tryRow-next : (t : ℕ) (q : List (List ℕ)) → tryRow next r (t + 1) q ≡ tryState next r t (tryRow next r t q)
+  pub startsBelow-next : (s : ℕ) → startsBelow start (s + 1) ≡ tryState start [] s (startsBelow start s)
+  unfolding startsBelow
+  startsBelow-next s = ap (startsBelow start) (add-one s)
+
+-- The next one has no mark yet,
+pub next-unmarked : (start : ℕ → Bool) (n u : ℕ) → n ≤ u → isMarked (startsBelow start n) u ≡ false
+unfolding startsBelow tryState
+next-unmarked start zero u h = isMarked-nil u
+next-unmarked start (suc n) u h = go (start n && not (isMarked p n)) (next-unmarked start n u (omega arith))
+  where
+    p : List (List ℕ)
+    p = startsBelow start n
+
+    go : (b : Bool) → isMarked p u ≡ false → isMarked (cond b (p ++ ((n ∷ []) ∷ [])) p) u ≡ false
+    go true e = isMarked-snoc p (n ∷ []) u ∙ ap₂ _||_ e (ne-eqb n u (λ e. omega arith))
+    go false e = e
+
+-- so there are as many runs as start states.
+pub length-starts : (start : ℕ → Bool) (n : ℕ) → length (startsBelow start n) ≡ count n start
+unfolding startsBelow count
+length-starts start zero = refl
+length-starts start (suc n) = go (start n) refl (length-starts start n)
+  where
+    p : List (List ℕ)
+    p = startsBelow start n
+
+    go : (b : Bool) → start n ≡ b → length p ≡ count n start → length (tryState start [] n p) ≡ count n start + one b
+    go true e f =
+        omega (arith, f, ap length (tryState-taken start [] n p e (next-unmarked start n n (omega arith))), length-append p ((n ∷ []) ∷ []))
+    go false e f = omega (arith, f, ap length (tryState-fails start [] n p e))
+
+-- A pair is tried where not every state is marked, and where every one is, it has ended.
+module _ (size : ℕ) (next : ℕ → Bool) (r : List ℕ) where
+  pub tryPair-tried : (t : ℕ) (c : Collection) → length (c .runs) ≢ size
+      → tryPair size next r t c ≡ record { runs = tryState next r t (c .runs); pairs = c .pairs + 1 }
+  unfolding tryPair
+  tryPair-tried t c h = ap (λ b. cond b c (record { runs = tryState next r t (c .runs); pairs = c .pairs + 1 })) (ne-eqb (length (c .runs)) size h)
+
+  pub tryPair-ended : (t : ℕ) (c : Collection) → length (c .runs) ≡ size → tryPair size next r t c ≡ c
+  unfolding tryPair
+  tryPair-ended t c e = ap (λ b. cond b c (record { runs = tryState next r t (c .runs); pairs = c .pairs + 1 })) (eq-eqb (length (c .runs)) size e)
+
+  -- What is true in both cases.
+  pub by-pair : (P : Collection → Type 0) (t : ℕ) (c : Collection) → (length (c .runs) ≡ size → P c)
+      → P (record { runs = tryState next r t (c .runs); pairs = c .pairs + 1 }) → P (tryPair size next r t c)
+  by-pair P t c ended tried =
+      let n : ℕ = length (c .runs) in
+      ⊎-elim (λ e. rw (tryPair-tried t c (eqb-false n size e)) tried)
+      (λ e. let full = eqb-true n size e in rw (tryPair-ended t c full) (ended full)) (dichotomy (eqb n size))
+
+  pub tryRow-zero : (c : Collection) → tryRow size next r 0 c ≡ c
   unfolding tryRow
-  tryRow-next t q = ap (λ n. tryRow next r n q) (add-one t)
+  tryRow-zero c = refl
+
+  pub tryRow-next : (t : ℕ) (c : Collection) → tryRow size next r (t + 1) c ≡ tryPair size next r t (tryRow size next r t c)
+  unfolding tryRow
+  tryRow-next t c = ap (λ n. tryRow size next r n c) (add-one t)
+
+  -- Once every state is marked, a row stays as it is.
+  pub tryRow-stays : (t : ℕ) (c : Collection) → length (tryRow size next r t c .runs) ≡ size → (n : ℕ) → t ≤ n
+      → tryRow size next r n c ≡ tryRow size next r t c
+  tryRow-stays t c e =
+      le-ind (λ n. tryRow size next r n c ≡ tryRow size next r t c) refl
+      (λ n h q.
+      sym (ap (λ m. tryRow size next r m c) (add-one n)) ∙ tryRow-next n c
+      ∙ tryPair-ended n (tryRow size next r n c) (ap (λ x. length (x .runs)) q ∙ e) ∙ q)
 
 module _ (M : System) where
-  pub explored-zero : explored M 0 ≡ tryRow (M .start) [] (M .size) []
+  pub explored-zero : explored M 0 ≡ record { runs = startsBelow (M .start) (M .size); pairs = 0 }
   unfolding explored
   explored-zero = refl
 
+  -- What has been collected once the run at place i has been tried with every state, too.
+  abbrev pub row-at : ℕ → Collection
+  row-at i = let r = getD (explored M i .runs) i [] in tryRow (M .size) (M .step (last r)) r (M .size) (explored M i)
+
   -- Where there is a run at place i, it is tried with every state;
-  pub explored-next : (i : ℕ) → i < length (explored M i)
-      → explored M (i + 1) ≡ tryRow (M .step (last (getD (explored M i) i []))) (getD (explored M i) i []) (M .size) (explored M i)
+  pub explored-next : (i : ℕ) → i < length (explored M i .runs) → explored M (i + 1) ≡ row-at i
   unfolding explored
-  explored-next i h = rw (add-one, lt-ltb i (length (explored M i)) h)
+  explored-next i h = rw (add-one, lt-ltb i (length (explored M i .runs)) h)
 
   -- where there is none, the search has ended
-  pub explored-ended : (i : ℕ) → length (explored M i) ≤ i → explored M (i + 1) ≡ explored M i
+  pub explored-ended : (i : ℕ) → length (explored M i .runs) ≤ i → explored M (i + 1) ≡ explored M i
   unfolding explored
-  explored-ended i h = rw (add-one, le-ltb i (length (explored M i)) h)
+  explored-ended i h = rw (add-one, le-ltb i (length (explored M i .runs)) h)
 
-  -- and stays so.
-  pub explored-stays : (i : ℕ) → length (explored M i) ≤ i → (j : ℕ) → i ≤ j → explored M j ≡ explored M i
+  -- and stays so;
+  pub explored-stays : (i : ℕ) → length (explored M i .runs) ≤ i → (j : ℕ) → i ≤ j → explored M j ≡ explored M i
   explored-stays i h =
       le-ind (λ j. explored M j ≡ explored M i) refl
-      (λ j g e. sym (ap (explored M) (add-one j)) ∙ explored-ended j (omega (arith, ap length e)) ∙ e)
+      (λ j g e. sym (ap (explored M) (add-one j)) ∙ explored-ended j (omega (arith, ap (λ c. length (c .runs)) e)) ∙ e)
+
+  -- What is true in both cases.
+  pub by-run : (P : Collection → Type 0) (i : ℕ) → (length (explored M i .runs) ≤ i → P (explored M i))
+      → (i < length (explored M i .runs) → P (row-at i)) → P (explored M (i + 1))
+  by-run P i ended more =
+      let n : ℕ = length (explored M i .runs) in
+      ⊎-elim (λ e. let h = ltb-false i n e in rw (explored-ended i h) (ended h)) (λ e. let h = ltb-true i n e in rw (explored-next i h) (more h))
+      (dichotomy (ltb i n))
+
+  -- Where every state is marked, the search has ended and stays so, too.
+  pub explored-full : (i : ℕ) → length (explored M i .runs) ≡ M .size → (j : ℕ) → i ≤ j → explored M j ≡ explored M i
+  explored-full i full =
+      le-ind (λ j. explored M j ≡ explored M i) refl
+      (λ j g e.
+      sym (ap (explored M) (add-one j))
+      ∙ by-run (λ c. c ≡ explored M j) j (λ _. refl) (λ _. row j (ap (λ c. length (c .runs)) e ∙ full)) ∙ e)
+    where
+      row : (j : ℕ) → length (explored M j .runs) ≡ M .size → row-at j ≡ explored M j
+      row j f =
+          let r : List ℕ = getD (explored M j .runs) j [] in
+          let none : tryRow (M .size) (M .step (last r)) r 0 (explored M j) ≡ explored M j = tryRow-zero (M .size) (M .step (last r)) r (explored M j) in
+          tryRow-stays (M .size) (M .step (last r)) r 0 (explored M j) (ap (λ c. length (c .runs)) none ∙ f) (M .size) (omega arith) ∙ none

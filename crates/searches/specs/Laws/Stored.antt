@@ -20,14 +20,14 @@ use Rattle.searches.specs.Laws.Search.{collected-states, search-collecte
 
 -- Where no state is past the marks, they are those of the search.
 module _ (M : System) (small : M .size ≤ 128) where
-  marks-all : (s : ℕ) → getD (reachedOf M .marks) s false ≡ isMarked (search M) s
+  marks-all : (s : ℕ) → getD (reachedOf M .marks) s false ≡ isMarked (search M .runs) s
   unfolding reachedOf
-  marks-all s = ⊎-elim past (λ e. getD-tabulate 128 (isMarked (search M)) false s (ltb-true s 128 e)) (dichotomy (ltb s 128))
+  marks-all s = ⊎-elim past (λ e. getD-tabulate 128 (isMarked (search M .runs)) false s (ltb-true s 128 e)) (dichotomy (ltb s 128))
     where
-      past : ltb s 128 ≡ false → getD (tabulate 128 (isMarked (search M))) s false ≡ isMarked (search M) s
+      past : ltb s 128 ≡ false → getD (tabulate 128 (isMarked (search M .runs))) s false ≡ isMarked (search M .runs) s
       past e =
           let h : 128 ≤ s = ltb-false s 128 e in
-          List·getD-eq-default (tabulate 128 (isMarked (search M))) false {n = s} (omega (arith, length-tabulate 128 (isMarked (search M))))
+          List·getD-eq-default (tabulate 128 (isMarked (search M .runs))) false {n = s} (omega (arith, length-tabulate 128 (isMarked (search M .runs))))
           ∙ sym (collected-states (search-collected M) s (omega arith))
 
   -- A state is marked exactly if it is reached,
@@ -39,5 +39,5 @@ module _ (M : System) (small : M .size ≤ 128) where
   unfolding reachedOf
   reached-count =
       search-collected M .counted
-      ∙ sym (count-past (isMarked (search M)) (M .size) (collected-states (search-collected M)) 128 small)
-      ∙ count-same (isMarked (search M)) (λ s. getD (reachedOf M .marks) s false) 128 (λ s _. sym (marks-all s))
+      ∙ sym (count-past (isMarked (search M .runs)) (M .size) (collected-states (search-collected M)) 128 small)
+      ∙ count-same (isMarked (search M .runs)) (λ s. getD (reachedOf M .marks) s false) 128 (λ s _. sym (marks-all s))

@@ -49,6 +49,16 @@ unfolding count
 count-none p none zero = refl
 count-none p none (suc n) = omega (arith, count-none p none n, ap one (none n))
 
+-- Where every number below the bound passes, so many do;
+pub count-all : (p : ℕ → Bool) (n : ℕ) → ((k : ℕ) → k < n → p k ≡ true) → count n p ≡ n
+unfolding count
+count-all p zero all = refl
+count-all p (suc n) all = omega (arith, count-all p n (λ k h. all k (omega arith)), ap one (all n (omega arith)))
+
+-- where one does not, fewer.
+pub count-less : (p : ℕ → Bool) (n s : ℕ) → s < n → p s ≡ false → count n p < n
+count-less p n s h e = omega (arith, count-more p (λ _. true) (λ _ _. refl) n s h e refl, count-le n (λ _. true))
+
 pub count-same : (p q : ℕ → Bool) (n : ℕ) → ((k : ℕ) → k < n → p k ≡ q k) → count n p ≡ count n q
 unfolding count
 count-same p q zero same = refl

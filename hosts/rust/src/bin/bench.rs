@@ -13,7 +13,7 @@ use codremif_host::answer::{Refused, Said};
 use codremif_host::calls;
 use codremif_host::compare::place_in;
 use codremif_host::judgements;
-use codremif_host::plain::answers::{judge, list_bytes, write_list};
+use codremif_host::plain::answers::{judge, list_bytes, reached, write_list};
 use codremif_host::plain::lookup;
 use codremif_host::plain::sets::{irrelevant, may, must, Verdicts};
 use codremif_host::plain::system::TransitionSystem;
@@ -39,13 +39,15 @@ fn main() {
     table("Largest models: 7 bits, 16 rules", largest_models());
     table("Growing N, 16 rules", (1..=7).map(|bits| growing(bits, 16)).collect());
     table("Growing R, 7 bits", (1..=16).map(|rules| growing(7, rules)).collect());
+    table_of_weak_sets();
     table_of_properties();
     table_of_lookups();
     println!(
         "Times are medians in milliseconds; 'ratio' is the plain search's time divided by the library's."
     );
     println!("'judged' is how many sets a list call judges; the plain search judges all 2^R, and MUST takes R + 1 at most.");
-    println!("The judge call is given the full set. All answers of the two sides were alike.");
+    println!("The judge call is given the full set where no set is named. All answers of the two sides were alike.");
+    println!("Of weak sets, 'in full' is 128 pairs for each reached state: so many are tried without the early end.");
     println!("Next to one property, 'ratio' is the time with four divided by the time with one; at most 1.2 is asked for.");
     println!(
         "Where a set is looked up, times are nanoseconds for each listed set passed over; at most 2 are stated."
@@ -184,6 +186,46 @@ fn verdicts(text: &[u8]) -> Verdicts {
 
 fn read(text: &[u8]) -> Model {
     text::read(text).expect("an accepted model")
+}
+
+/// Set 0 and sets of one rule, which often reach every state, and the full set for comparison.
+const WEAK_SETS: [(&str, u32); 5] =
+    [("set 0", 0), ("rule 0", 1), ("rule 5", 1 << 5), ("rule 15", 1 << 15), ("full set", 0xFFFF)];
+
+fn table_of_weak_sets() {
+    println!("Weak sets of the largest models: 7 bits, 16 rules");
+    println!(
+        "{:<22} {:<8} {:>6} {:>5} {:>7} |{} |{}",
+        "model",
+        "set",
+        "states",
+        "pairs",
+        "in full",
+        heading("judge"),
+        heading("reached")
+    );
+    let models = ["clauses, more cores", "alternatives, hundreds", "joint, many cuts", "dense, hundreds"];
+    for case in largest_models().into_iter().filter(|case| models.contains(&case.name.as_str())) {
+        for (name, set) in WEAK_SETS {
+            println!("{:<22} {name:<8} {}", case.name, row_of_a_set(&case.text, set));
+        }
+    }
+    println!();
+}
+
+fn row_of_a_set(text: &[u8], set: u32) -> String {
+    let judged = timed_with_bytes(
+        |lent| calls::judge(text, set, lent),
+        |lent| judge(&TransitionSystem::of(&read(text)), set, lent),
+    );
+    let marked = timed_with_bytes(
+        |lent| calls::reached(text, set, lent),
+        |lent| reached(&TransitionSystem::of(&read(text)), set, lent),
+    );
+    let mut marks = [0; calls::MARK_BYTES];
+    let pairs = calls::reached(text, set, &mut marks).expect("a set of the model").pairs;
+    let states = marks.iter().filter(|mark| **mark == 1).count();
+    format!("{states:>6} {pairs:>5} {:>7} |{judged} |{marked}", 128 * states)
 }
 
 /// The same model in two texts: with four properties, and with one property that is their conjunction.

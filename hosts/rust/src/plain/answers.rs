@@ -1,10 +1,11 @@
 //! The calls that read a text, answered by the plain search.
 
+use super::reached::collect;
 use super::sets::{self, Verdicts};
 use super::system::TransitionSystem;
 use super::text::{self, Model};
 use super::trace::trace;
-use crate::answer::{Reason, Refused, Verdict};
+use crate::answer::{Reached, Reason, Refused, Verdict};
 
 /// An accepted model with everything that can be asked of it.
 pub struct Answers {
@@ -47,16 +48,30 @@ impl Answers {
 
 /// Judges one set of a system and writes its trace, one byte per state.
 pub fn judge(system: &TransitionSystem, set: u32, lent: &mut [u8]) -> Result<Verdict, Refused> {
-    if set >= 1 << system.rules {
-        return Err(Refused::new(Reason::NoSuchSet, 0));
-    }
-    match trace(system, set as u16) {
+    match trace(system, set_of(system, set)?) {
         None => Ok(Verdict::Holds),
         Some(run) => {
             write_bytes(&run, lent)?;
             Ok(Verdict::Broken { length: run.len() })
         }
     }
+}
+
+/// Collects the states that one set of a system reaches and writes their marks, one byte for each state by number.
+pub fn reached(system: &TransitionSystem, set: u32, lent: &mut [u8]) -> Result<Reached, Refused> {
+    let collected = collect(system, set_of(system, set)?);
+    let marks: Vec<u8> =
+        (0..system.states).map(|state| u8::from(collected.marked.contains(&state))).collect();
+    write_bytes(&marks, lent)?;
+    Ok(Reached { pairs: collected.pairs })
+}
+
+/// The set of a number below 2^R.
+fn set_of(system: &TransitionSystem, number: u32) -> Result<u16, Refused> {
+    if number >= 1 << system.rules {
+        return Err(Refused::new(Reason::NoSuchSet, 0));
+    }
+    Ok(number as u16)
 }
 
 /// Writes a list to lent bytes.

@@ -4,6 +4,7 @@
 //! * [`text`]: how a model text is read, and the numbers 1 to 9.
 //! * [`system`]: the transition system of a model: start states, bad states, steps, reached states.
 //! * [`trace`]: the shortest run to a bad state, the first of its length.
+//! * [`reached`]: the reached states of a set, in the order of marking, and the pairs that are tried for them.
 //! * [`sets`]: every rule set judged; cores, cuts, MUST, MAY and the irrelevant rules by definition.
 //! * [`answers`]: the calls that read a text.
 //! * [`lookup`]: the calls that read none, but a core list and a cut list.
@@ -12,6 +13,7 @@
 pub mod answers;
 pub mod expression;
 pub mod lookup;
+pub mod reached;
 pub mod report;
 pub mod sets;
 pub mod system;

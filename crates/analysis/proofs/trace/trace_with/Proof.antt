@@ -1,7 +1,9 @@
 -- `analysis::trace::trace_with` meets its contract: by the filled tables a set has the trace that it means.
 -- Assumes nothing.
 use borrow.Author.Needs.{needs}
-use Rattle.analysis.proofs.Filled.{room, trace-is}
+use Rattle.searches.specs.Traced.{traceArray}
+use Rattle.searches.specs.Laws.Traced.{same-traceArray}
+use Rattle.analysis.proofs.Filled.{room, search-is}
 use Rattle.analysis.proofs.trace.trace_with.Statement.{statement}
 use Rattle.analysis.proofs.trace.trace_with.Tie as tie
 
@@ -18,4 +20,4 @@ trace-with-spec =
     (λ c. search needs)
     (λ c.
     let f = c .before .before .before .before in
-    trace-is (start f .args .text .now) (start f .pre .0) (f .fill .ensures .1) (f .fill .ensures .0) (start f .pre .1) (c .trace-of .ensures)))
+    search-is (start f .args .text .now) (start f .pre .0) (f .fill .ensures .1) (f .fill .ensures .0) traceArray (λ N M. same-traceArray) (start f .pre .1) (c .trace-of .ensures)))
