@@ -17,6 +17,7 @@
 #define GUARD_BYTES 64
 #define TWO_40 ((uint64_t)1 << 40)
 
+typedef uint64_t (*set_call)(const uint8_t *, size_t, uint32_t, uint8_t *, size_t);
 typedef uint64_t (*list_call)(const uint8_t *, size_t, uint8_t *, size_t);
 
 static int failures;
@@ -75,24 +76,24 @@ static struct text text_of(const char *bytes, size_t length)
     return text;
 }
 
-/* Whether judging gives this answer and writes these bytes, whatever the lent bytes held. */
-static int judged(struct text text, uint32_t set, size_t lent_bytes, uint64_t answer, const uint8_t *written, size_t count)
+/* Whether a call that is handed a set gives this answer and writes these bytes, whatever the lent bytes held. */
+static int answered(set_call call, struct text text, uint32_t set, size_t lent_bytes, uint64_t answer, const uint8_t *written, size_t count)
 {
     struct lent clear = lend(lent_bytes, 0x00), filled = lend(lent_bytes, 0xEE);
-    int good = codremif_judge(text.bytes, text.length, set, clear.bytes, lent_bytes) == answer;
-    good = codremif_judge(text.bytes, text.length, set, filled.bytes, lent_bytes) == answer && good;
+    int good = call(text.bytes, text.length, set, clear.bytes, lent_bytes) == answer;
+    good = call(text.bytes, text.length, set, filled.bytes, lent_bytes) == answer && good;
     good = took(&clear, written, count) && good;
     return took(&filled, written, count) && good;
 }
 
-/* Whether marking gives this answer and writes these bytes, whatever the lent bytes held. */
+static int judged(struct text text, uint32_t set, size_t lent_bytes, uint64_t answer, const uint8_t *written, size_t count)
+{
+    return answered(codremif_judge, text, set, lent_bytes, answer, written, count);
+}
+
 static int reached(struct text text, uint32_t set, size_t lent_bytes, uint64_t answer, const uint8_t *written, size_t count)
 {
-    struct lent clear = lend(lent_bytes, 0x00), filled = lend(lent_bytes, 0xEE);
-    int good = codremif_reached(text.bytes, text.length, set, clear.bytes, lent_bytes) == answer;
-    good = codremif_reached(text.bytes, text.length, set, filled.bytes, lent_bytes) == answer && good;
-    good = took(&clear, written, count) && good;
-    return took(&filled, written, count) && good;
+    return answered(codremif_reached, text, set, lent_bytes, answer, written, count);
 }
 
 /* Whether listing gives this answer and writes these bytes, whatever the lent bytes held. */

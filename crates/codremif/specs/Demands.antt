@@ -1,5 +1,5 @@
 -- The demands of the mission, as theorems about what exactly the calls answer and write. Nothing is assumed.
--- To believe them, read these files below crates/ in this order (lines without imports and blank lines, 1,581 in all). What is proved of their
+-- To believe them, read these files below crates/ in this order (lines without imports and blank lines, 1,583 in all). What is proved of their
 -- definitions stands in `Laws` and need not be read, and neither need the functions that compute (the reading of a text, the verdict, the lists):
 -- the theorems say what they give.
 --   a number as a set of rules or of letters           sets/specs/Bit                8
@@ -16,7 +16,7 @@
 --   how many numbers below a bound pass a test         systems/specs/Count           6
 --   and 1 for one that passes, 0 for one that does not sets/specs/Gathered          11
 --   a list given entry by entry                        sets/specs/Tabulated          6
---   the collecting of the reached states               searches/specs/Search        45
+--   the collecting of the reached states               searches/specs/Search        47
 --   what is to hold of it, for any system              searches/specs/Collecting    14
 --   the transition system of a model and a set         semantics/specs/Meaning      34
 --   parts, sharing a rule, the order of a list         sets/specs/Sets              30

@@ -22,7 +22,7 @@ use Rattle.systems.specs.Count.{count}
 use Rattle.systems.specs.Laws.Count.{count-le, count-less, count-none, count-one-more}
 use Rattle.systems.specs.System.{System, last}
 use Rattle.systems.specs.Laws.Walks.{last-snoc, walk-last}
-use Rattle.searches.specs.Search.{Collection, isMarked, tryState, startsBelow, tryRow, explored, search}
+use Rattle.searches.specs.Search.{Collection, isMarked, tryState, startsBelow, pairTried, tryRow, explored, search}
 use Rattle.searches.specs.Laws.SearchSteps.{isMarked-nil, isMarked-snoc, startsBelow-zero, startsBelow-next, next-unmarked, tryPair-tried, tryRow-zero, tryRow-next, tryRow-stays, explored-next, explored-full}
 use Rattle.searches.specs.Laws.Search.{explored-collected, explored-short, search-ended}
 use Rattle.searches.specs.Laws.Collecting.{explored-pairs}
@@ -323,7 +323,7 @@ module _ {size : ℕ} {next : ℕ → Bool} {i : ℕ} {x : Runs} {t : ℕ} {y : 
 
   next-pair : y .count ≢ size
       → tryRow size next (getD (runsIn x) i []) (t + 1) (collectionIn x)
-      ≡ record { runs = tryState next (getD (runsIn x) i []) t (c .runs); pairs = c .pairs + 1 }
+      ≡ pairTried next (getD (runsIn x) i []) t c
   unfolding c
   next-pair h =
       tryRow-next size next (getD (runsIn x) i []) t (collectionIn x)
@@ -331,7 +331,7 @@ module _ {size : ℕ} {next : ℕ → Bool} {i : ℕ} {x : Runs} {t : ℕ} {y : 
 
   -- and the state is passed over,
   pub pair-passed : y .count ≢ size → (next t && not (getD (y .marks) t false)) ≡ false → PairsStored size next i x (t + 1) (counted y)
-  unfolding c counted tried
+  unfolding c counted tried pairTried
   pair-passed h e = record { row = rw (next-pair h) (row-passed pair-counted next t e) }
 
   pub pair-room : t < 128 → (next t && not (getD (y .marks) t false)) ≡ true → y .count < 128
@@ -341,7 +341,7 @@ module _ {size : ℕ} {next : ℕ → Bool} {i : ℕ} {x : Runs} {t : ℕ} {y : 
   -- or marked.
   pub pair-taken : t < 128 → y .count ≢ size → (next t && not (getD (y .marks) t false)) ≡ true
       → PairsStored size next i x (t + 1) (withRun (counted y) i t)
-  unfolding c counted tried
+  unfolding c counted tried pairTried
   pair-taken b h e = record { row = rw (next-pair h) (row-taken pair-counted next t b e) }
 
 -- ---- the whole search

@@ -30,14 +30,17 @@ unfolding tryState
 startsBelow start zero = []
 startsBelow start (suc s) = tryState start [] s (startsBelow start s)
 
--- The last state of r and the state t are tried as a pair, unless the marked states are as many as there are.
-unfoldable pub tryPair : (size : ℕ) → (ℕ → Bool) → List ℕ → ℕ → Collection → Collection
+-- The last state of r and the state t are a pair, which counts whether t is marked or not.
+unfoldable pub pairTried : (ℕ → Bool) → List ℕ → ℕ → Collection → Collection
 unfolding tryState
-tryPair size next r t c =
-    let tried : Collection = record { runs = tryState next r t (c .runs); pairs = c .pairs + 1 } in
-    cond (eqb (length (c .runs)) size) c tried
+pairTried next r t c = record { runs = tryState next r t (c .runs); pairs = c .pairs + 1 }
 
--- It is tried as the first of a pair with the states below n, by number.
+-- It is tried unless the marked states are as many as there are.
+unfoldable pub tryPair : (size : ℕ) → (ℕ → Bool) → List ℕ → ℕ → Collection → Collection
+unfolding pairTried
+tryPair size next r t c = cond (eqb (length (c .runs)) size) c (pairTried next r t c)
+
+-- The last state of r is tried as the first of a pair with the states below n, by number.
 unfoldable pub tryRow : (size : ℕ) → (ℕ → Bool) → List ℕ → ℕ → Collection → Collection
 unfolding tryPair
 tryRow size next r zero c = c

@@ -18,11 +18,11 @@ use Rattle.systems.specs.Laws.Count.{count-all, count-less, count-same}
 use Rattle.systems.specs.Laws.Compare.{Same}
 use Rattle.systems.specs.Laws.Walks.{walk-last}
 use Rattle.systems.specs.System.{System, last, Reached}
-use Rattle.searches.specs.Search.{Collection, isMarked, tryState, startsBelow, tryPair, tryRow, explored, search}
+use Rattle.searches.specs.Search.{Collection, isMarked, tryState, startsBelow, pairTried, tryPair, tryRow, explored, search}
 use Rattle.searches.specs.Stored.{reachedOf}
 use Rattle.searches.specs.Collecting.{Collecting}
 use Rattle.searches.specs.Laws.Search.{explored-collected, explored-closed, search-collected, search-ended, marks}
-use Rattle.searches.specs.Laws.SearchSteps.{length-starts, by-pair, explored-zero, row-at, explored-next, explored-ended, by-run, explored-full}
+use Rattle.searches.specs.Laws.SearchSteps.{length-starts, pairTried-counts, by-pair, explored-zero, row-at, explored-next, explored-ended, by-run, explored-full}
 
 -- ---- each pair adds at most one run
 
@@ -38,8 +38,8 @@ grown-trans : {c d e : Collection} → Grown c d → Grown d e → Grown c e
 grown-trans a b = record { longer = omega (arith, a .longer, b .longer); paid = omega (arith, a .paid, b .paid) }
 
 module _ (size : ℕ) (next : ℕ → Bool) (r : List ℕ) where
-  tried-grown : (t : ℕ) (c : Collection) → Grown c (record { runs = tryState next r t (c .runs); pairs = c .pairs + 1 })
-  unfolding tryState
+  tried-grown : (t : ℕ) (c : Collection) → Grown c (pairTried next r t c)
+  unfolding pairTried tryState
   tried-grown t c = go (next t && not (isMarked (c .runs) t))
     where
       go : (b : Bool) → Grown c (record { runs = cond b (c .runs ++ ((r ++ (t ∷ [])) ∷ [])) (c .runs); pairs = c .pairs + 1 })
@@ -59,7 +59,8 @@ module _ (size : ℕ) (next : ℕ → Bool) (r : List ℕ) where
   unfolding tryRow
   row-few zero c = omega arith
   row-few (suc n) c =
-      by-pair size next r (λ d. d .pairs ≤ c .pairs + suc n) n (tryRow size next r n c) (λ _. omega (arith, row-few n c)) (omega (arith, row-few n c))
+      by-pair size next r (λ d. d .pairs ≤ c .pairs + suc n) n (tryRow size next r n c) (λ _. omega (arith, row-few n c))
+      (omega (arith, row-few n c, pairTried-counts next r n (tryRow size next r n c)))
 
   -- Where not every state is marked after a row, each of its pairs has been tried.
   row-whole : (n : ℕ) (c : Collection) → length (tryRow size next r n c .runs) < size → tryRow size next r n c .pairs ≡ c .pairs + n
@@ -68,7 +69,7 @@ module _ (size : ℕ) (next : ℕ → Bool) (r : List ℕ) where
   row-whole (suc n) c h =
       let d : Collection = tryRow size next r n c in
       by-pair size next r (λ e. length (e .runs) < size → e .pairs ≡ c .pairs + suc n) n d (λ full g. absurd (omega arith))
-      (λ g. omega (arith, row-whole n c (omega (arith, tried-grown n d .longer)))) h
+      (λ g. omega (arith, row-whole n c (omega (arith, tried-grown n d .longer)), pairTried-counts next r n d)) h
 
 -- ---- the rows
 
@@ -204,7 +205,7 @@ starts-same p q (suc n) same =
 
 row-same : (size : ℕ) (p q : ℕ → Bool) (r : List ℕ) (n : ℕ) (c : Collection) → ((t : ℕ) → t < n → p t ≡ q t)
     → tryRow size p r n c ≡ tryRow size q r n c
-unfolding tryRow tryPair
+unfolding tryRow tryPair pairTried
 row-same size p q r zero c same = refl
 row-same size p q r (suc n) c same =
     let d : Collection = tryRow size p r n c in

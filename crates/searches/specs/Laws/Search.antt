@@ -24,7 +24,7 @@ use Rattle.systems.specs.Laws.Walks.{walk-one, walk-snoc, walk-last, last-snoc}
 use Rattle.systems.specs.Verdict.{holds, traceOf}
 use Rattle.systems.specs.Judged.{judged}
 use Rattle.systems.specs.Laws.Holds.{holds-iff}
-use Rattle.searches.specs.Search.{Collection, isMarked, tryState, startsBelow, tryPair, tryRow, explored, search}
+use Rattle.searches.specs.Search.{Collection, isMarked, tryState, startsBelow, pairTried, tryPair, tryRow, explored, search}
 use Rattle.searches.specs.Laws.Sooner.{Sooner, sooner-trans, sooner-snoc, sooner-last, walk-grows, NoLater, no-later-trans, no-later-snoc, no-later-length, no-later-first}
 use Rattle.searches.specs.Laws.SearchSteps.{RunTo, isMarked-nil, isMarked-snoc, isMarked-at, isMarked-run, tryState-taken, tryState-fails, tryState-marked, by-pair, explored-zero, by-run, explored-stays}
 
@@ -200,6 +200,7 @@ module _ {M : System} {next : ℕ → Bool} {r : List ℕ} {q : List (List ℕ)}
 
   -- and once every state is marked, so is every state that is left.
   row-pair : (t : ℕ) (c : Collection) → t < M .size → Row M next r q t (c .runs) → Row M next r q (suc t) (tryPair (M .size) next r t c .runs)
+  unfolding pairTried
   row-pair t c h w =
       by-pair (M .size) next r (λ d. Row M next r q (suc t) (d .runs)) t c
       (λ full. row-skipped t (c .runs) (λ _. isMarked-run (c .runs) t (collected-full (w .collected) full t h)) w) (row-state t (c .runs) h w)

@@ -15,7 +15,7 @@ use lib.ListN.{length, getD, length-append}
 use Rattle.sets.specs.Gathered.{one}
 use Rattle.systems.specs.Count.{count}
 use Rattle.systems.specs.System.{System, last}
-use Rattle.searches.specs.Search.{Collection, isMarked, tryState, startsBelow, tryPair, tryRow, explored}
+use Rattle.searches.specs.Search.{Collection, isMarked, tryState, startsBelow, pairTried, tryPair, tryRow, explored}
 
 -- ---- marks
 
@@ -109,20 +109,24 @@ length-starts start (suc n) = go (start n) refl (length-starts start n)
         omega (arith, f, ap length (tryState-taken start [] n p e (next-unmarked start n n (omega arith))), length-append p ((n ∷ []) ∷ []))
     go false e f = omega (arith, f, ap length (tryState-fails start [] n p e))
 
--- A pair is tried where not every state is marked, and where every one is, it has ended.
+-- A pair that is tried counts one, whether its second state is marked or not.
+pub pairTried-counts : (next : ℕ → Bool) (r : List ℕ) (t : ℕ) (c : Collection) → pairTried next r t c .pairs ≡ c .pairs + 1
+unfolding pairTried
+pairTried-counts next r t c = refl
+
+-- It is tried where not every state is marked, and where every one is, the search has ended.
 module _ (size : ℕ) (next : ℕ → Bool) (r : List ℕ) where
-  pub tryPair-tried : (t : ℕ) (c : Collection) → length (c .runs) ≢ size
-      → tryPair size next r t c ≡ record { runs = tryState next r t (c .runs); pairs = c .pairs + 1 }
+  pub tryPair-tried : (t : ℕ) (c : Collection) → length (c .runs) ≢ size → tryPair size next r t c ≡ pairTried next r t c
   unfolding tryPair
-  tryPair-tried t c h = ap (λ b. cond b c (record { runs = tryState next r t (c .runs); pairs = c .pairs + 1 })) (ne-eqb (length (c .runs)) size h)
+  tryPair-tried t c h = ap (λ b. cond b c (pairTried next r t c)) (ne-eqb (length (c .runs)) size h)
 
   pub tryPair-ended : (t : ℕ) (c : Collection) → length (c .runs) ≡ size → tryPair size next r t c ≡ c
   unfolding tryPair
-  tryPair-ended t c e = ap (λ b. cond b c (record { runs = tryState next r t (c .runs); pairs = c .pairs + 1 })) (eq-eqb (length (c .runs)) size e)
+  tryPair-ended t c e = ap (λ b. cond b c (pairTried next r t c)) (eq-eqb (length (c .runs)) size e)
 
   -- What is true in both cases.
-  pub by-pair : (P : Collection → Type 0) (t : ℕ) (c : Collection) → (length (c .runs) ≡ size → P c)
-      → P (record { runs = tryState next r t (c .runs); pairs = c .pairs + 1 }) → P (tryPair size next r t c)
+  pub by-pair : (P : Collection → Type 0) (t : ℕ) (c : Collection) → (length (c .runs) ≡ size → P c) → P (pairTried next r t c)
+      → P (tryPair size next r t c)
   by-pair P t c ended tried =
       let n : ℕ = length (c .runs) in
       ⊎-elim (λ e. rw (tryPair-tried t c (eqb-false n size e)) tried)
