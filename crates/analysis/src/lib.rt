@@ -1,5 +1,6 @@
-// What a model text that has been read answers: the trace of a set, its reached states, the lists of the cores and of the cuts, MUST, and the kinds of its rules. The arrays
-// for the masks and the tables of sets lie here, in two sizes each: small models would spend most of their time clearing the large ones.
+// What a model text that has been read answers: the trace of a set, its reached states, the lists of the cores and of the cuts, MUST, and the kinds of
+// its rules. The arrays for the masks and the tables of sets lie here, in two sizes each: small models would spend most of their time clearing the
+// large ones.
 mod finding;
 pub mod kinds;
 pub mod lists;

@@ -20,9 +20,9 @@ use Rattle.searches.specs.Traced.{traceArray, traceWith}
 use Rattle.searches.specs.Laws.Traced.{trace-holds, trace-states}
 use Rattle.calls.specs.declared.answers.JudgeAnswer.{JudgeAnswer}
 use Rattle.calls.specs.declared.answers.JudgeAnswer.the-variants.{Refused as JudgeRefused, Holds, Broken}
-use Rattle.calls.specs.Answers.{rulesIn, systemIn, traceIn, textOutcome, judgeOutcome, after, verdictOf, judgeAnswer, judgeBytes}
+use Rattle.calls.specs.Answers.{systemIn, traceIn, textOutcome, judgeOutcome, after, verdictOf, judgeAnswer, judgeBytes}
 use Rattle.calls.specs.AsRead.{IsRead}
-use Rattle.calls.specs.Laws.Answers.{read-model, rules-read, given-accepted, given-refused, judge-numbers, verdict-held, verdict-broken}
+use Rattle.calls.specs.Laws.Answers.{read-model, rules-read, set-read, given-accepted, given-refused, judge-numbers, verdict-held, verdict-broken}
 use Rattle.calls.specs.Lent.{Front}
 use Rattle.calls.specs.Laws.Sizes.{trace-le}
 
@@ -68,15 +68,12 @@ module _ {text : List ℕ} {m : Model} (r : IsRead text m) where
     unfolding M traceIn
     length-of = length-is
 
-    set-in : S < 2 ^ rulesIn text
-    set-in = rw (rules-read r) at set
-
     pub by-length : length lent < t .length → Gives text S lent (JudgeRefused 11 0) lent
-    by-length h = refused text S lent (judge-numbers text S lent .byLength (r .outcome) set-in (omega (arith, length-is)))
+    by-length h = refused text S lent (judge-numbers text S lent .byLength (r .outcome) (set-read r set) (omega (arith, length-is)))
 
     enough : t .length ≤ length lent → Gives text S lent (verdictOf M) (overwritten (traceIn text S) lent)
     unfolding M
-    enough h = accepted text S lent (judge-numbers text S lent .byNone (r .outcome) set-in (omega (arith, length-is)))
+    enough h = accepted text S lent (judge-numbers text S lent .byNone (r .outcome) (set-read r set) (omega (arith, length-is)))
 
     no-trace : (l : List ℕ) → length l ≡ 0 → lent ≡ overwritten l lent
     unfolding overwritten

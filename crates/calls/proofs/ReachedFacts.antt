@@ -1,7 +1,7 @@
 -- Each way out of giving the reached states of a set of a text that is read: the answer, and the lent bytes afterwards.
 -- From the order of the numbers (`Laws/Answers`) and the search as `searches` gives it. Assumes nothing.
 use Prim.Native.Nat.{ℕ, _^_, _≤_, _<_}
-use mathlib.Core.Path.{_≡_, refl, sym, ap, _∙_}
+use mathlib.Core.Path.{_≡_, sym, ap, _∙_}
 use mathlib.Core.Bool.{false}
 use mathlib.Core.List.{List}
 use native.Mathlib.Omega.{arith}
@@ -12,8 +12,8 @@ use Rattle.sets.specs.Lists.{overwritten}
 use Rattle.sets.specs.Tabulated.{tabulate}
 use Rattle.sets.specs.Laws.Tabulated.{getD-tabulate, same-entries}
 use Rattle.models.specs.declared.model.Model.{Model}
-use Rattle.models.specs.declared.model.Outcome.the-variants.{Accepted, Refused}
-use Rattle.models.specs.Written.{described, modelIn}
+use Rattle.models.specs.declared.model.Outcome.the-variants.{Refused}
+use Rattle.models.specs.Written.{described}
 use Rattle.semantics.specs.Meaning.{systemOf}
 use Rattle.systems.specs.System.{System}
 use Rattle.searches.specs.declared.runs.Reached.{Reached}
@@ -21,12 +21,12 @@ use Rattle.searches.specs.Search.{isMarked, search}
 use Rattle.searches.specs.Stored.{reachedOf}
 use Rattle.calls.specs.declared.answers.ReachedAnswer.{ReachedAnswer}
 use Rattle.calls.specs.declared.answers.ReachedAnswer.the-variants.{Refused as ReachedRefused, Pairs}
-use Rattle.calls.specs.Answers.{rulesIn, statesIn, systemIn, marksIn, pairsIn, textOutcome, reachedOutcome, after, reachedAnswer, reachedBytes}
+use Rattle.calls.specs.Answers.{statesIn, systemIn, marksIn, pairsIn, textOutcome, reachedOutcome, after, reachedAnswer, reachedBytes}
 use Rattle.calls.specs.AsRead.{IsRead}
-use Rattle.calls.specs.Laws.Answers.{read-model, rules-read, vars-most, given-accepted, given-refused, reached-numbers, length-marks}
+use Rattle.calls.specs.Laws.Answers.{read-model, rules-read, set-read, vars-most, given-accepted, given-refused, reached-numbers, length-marks}
 
 -- a call answers `answer` and leaves the lent bytes as `bytes`
-abbrev pub Reaches : List ℕ → ℕ → List ℕ → ReachedAnswer → List ℕ → Type 0
+abbrev Reaches : List ℕ → ℕ → List ℕ → ReachedAnswer → List ℕ → Type 0
 Reaches text S lent answer bytes = (answer ≡ reachedAnswer text S lent) × (bytes ≡ reachedBytes text S lent)
 
 not-reached : (text : List ℕ) (S : ℕ) (lent : List ℕ) {number line : ℕ} → reachedOutcome text S lent ≡ Refused number line
@@ -48,21 +48,18 @@ module _ {text : List ℕ} {m : Model} (r : IsRead text m) (S : ℕ) (lent : Lis
   states-read = ap (λ D. 2 ^ D .vars) (read-model r)
 
   module _ (set : S < 2 ^ m .rules) where
-    set-in : S < 2 ^ rulesIn text
-    set-in = rw (rules-read r) at set
-
     pub reached-by-length : length lent < 2 ^ m .vars → Reaches text S lent (ReachedRefused 11 0) lent
     reached-by-length h =
-        not-reached text S lent (reached-numbers text S lent .byLength (r .outcome) set-in (omega (arith, length-marks text S, states-read)))
+        not-reached text S lent (reached-numbers text S lent .byLength (r .outcome) (set-read r set) (omega (arith, length-marks text S, states-read)))
 
     -- the search x of the set
     module _ {x : Reached} (said : x ≡ reachedOf (systemOf (described text m) S)) where
       M : System
       M = systemIn text S
 
-      search-is : x ≡ reachedOf M
+      reached-is : x ≡ reachedOf M
       unfolding M systemIn
-      search-is = said ∙ ap (λ D. reachedOf (systemOf D S)) (read-model r)
+      reached-is = said ∙ ap (λ D. reachedOf (systemOf D S)) (read-model r)
 
       marks-are : tabulate (2 ^ m .vars) (λ s. boolByte (getD (x .marks) s false)) ≡ marksIn text S
       unfolding M marksIn reachedOf
@@ -70,7 +67,7 @@ module _ {text : List ℕ} {m : Model} (r : IsRead text m) (S : ℕ) (lent : Lis
           ap (λ n. tabulate n (λ s. boolByte (getD (x .marks) s false))) states-read
           ∙ same-entries (statesIn text) _ _
           (λ s h.
-          ap (λ y. boolByte (getD (y .marks) s false)) search-is
+          ap (λ y. boolByte (getD (y .marks) s false)) reached-is
           ∙ ap boolByte (getD-tabulate 128 (isMarked (search M .runs)) false s (omega (arith, h, few))))
         where
           few : statesIn text ≤ 128
@@ -80,7 +77,7 @@ module _ {text : List ℕ} {m : Model} (r : IsRead text m) (S : ℕ) (lent : Lis
           → Reaches text S lent (Pairs (x .pairs)) (overwritten (tabulate (2 ^ m .vars) (λ s. boolByte (getD (x .marks) s false))) lent)
       unfolding M reachedAnswer reachedBytes after pairsIn reachedOf
       reached-by-none h =
-          let e = reached-numbers text S lent .byNone (r .outcome) set-in (omega (arith, length-marks text S, states-read)) in (
-            ap (λ y. Pairs (y .pairs)) search-is ∙ sym (given-accepted ReachedRefused _ e),
+          let e = reached-numbers text S lent .byNone (r .outcome) (set-read r set) (omega (arith, length-marks text S, states-read)) in (
+            ap (λ y. Pairs (y .pairs)) reached-is ∙ sym (given-accepted ReachedRefused _ e),
             ap (λ l. overwritten l lent) marks-are ∙ sym (given-accepted _ _ e),
           )

@@ -10,7 +10,7 @@ use native.Mathlib.Nat.{mul-le-mul}
 use native.Mathlib.Omega.{arith}
 use native.Mathlib.Numerals.{add-one}
 use borrow.Author.Count.{below-more}
-use borrow.Author.Tests.{ltb-true, ltb-false, eqb-true, eqb-false, ne-eqb, not-true}
+use borrow.Author.Tests.{ltb-true, ltb-false, eqb-true, eqb-false, not-true}
 use lib.Dec.{eqb, ltb}
 use lib.ListN.{length, getD, set, replicate, length-append, length-set, length-replicate, List·getD-append, List·getD-eq-default}
 use lib.Seq.{getD-at, getD-set-same, getD-set-other}
@@ -159,6 +159,10 @@ module _ {x : Runs} (s : Sound x) where
       room : x .count < 128
       room = sound-room t h unmarked
 
+-- The count is how many runs there are.
+stores-count : {c : Collection} {x : Runs} → Stores c x → length (c .runs) ≡ x .count
+stores-count a = ap length (sym (a .runs)) ∙ sound-length (a .sound)
+
 -- ---- before the first mark
 
 -- Before the first run.
@@ -190,13 +194,13 @@ pub record RowStored (parent : ℕ) (q : List (List ℕ)) (c : Collection) (y : 
   pub behind : getD (runsIn y) parent [] ≡ getD q parent []
   pub within : parent < 128 → parent < y .count
 
-pub row-none : {parent : ℕ} {x : Runs} → Sound x → (parent < 128 → parent < x .count) → RowStored parent (runsIn x) (collectionIn x) x
+row-none : {parent : ℕ} {x : Runs} → Sound x → (parent < 128 → parent < x .count) → RowStored parent (runsIn x) (collectionIn x) x
 unfolding collectionIn
 row-none s within = record { stores = record { runs = refl; pairs = refl; sound = s }; behind = refl; within = within }
 
 module _ {parent : ℕ} {q : List (List ℕ)} {c : Collection} {y : Runs} (w : RowStored parent q c y) (next : ℕ → Bool) (t : ℕ) where
   -- State t is tried behind the run at place `parent`.
-  unfoldable pub tried : Collection
+  tried : Collection
   tried = record { runs = tryState next (getD q parent []) t (c .runs); pairs = c .pairs }
 
   tested : (b : Bool) → (next t && not (getD (y .marks) t false)) ≡ b
@@ -207,7 +211,7 @@ module _ {parent : ℕ} {q : List (List ℕ)} {c : Collection} {y : Runs} (w : R
       ∙ ap (λ b. cond b (runsIn y ++ ((getD (runsIn y) parent [] ++ (t ∷ [])) ∷ [])) (runsIn y))
       (ap (λ m. next t && not m) (sym (w .stores .sound .marked t)) ∙ e)
 
-  pub row-passed : (next t && not (getD (y .marks) t false)) ≡ false → RowStored parent q tried y
+  row-passed : (next t && not (getD (y .marks) t false)) ≡ false → RowStored parent q tried y
   unfolding tried
   row-passed e = record {
     stores = record { runs = sym (tested false e); pairs = w .stores .pairs; sound = w .stores .sound };
@@ -219,10 +223,10 @@ module _ {parent : ℕ} {q : List (List ℕ)} {c : Collection} {y : Runs} (w : R
   unmarked e = not-true (getD (y .marks) t false) (and-eq-true-iff (next t) (not (getD (y .marks) t false)) .0 e .1)
 
   -- A state that passes the test is not marked, so there is room for one run more.
-  pub row-room : t < 128 → (next t && not (getD (y .marks) t false)) ≡ true → y .count < 128
+  row-room : t < 128 → (next t && not (getD (y .marks) t false)) ≡ true → y .count < 128
   row-room h e = sound-room (w .stores .sound) t h (unmarked e)
 
-  pub row-taken : t < 128 → (next t && not (getD (y .marks) t false)) ≡ true → RowStored parent q tried (withRun y parent t)
+  row-taken : t < 128 → (next t && not (getD (y .marks) t false)) ≡ true → RowStored parent q tried (withRun y parent t)
   unfolding tried withRun
   row-taken h e = record {
     stores = record { runs = m .runs ∙ sym (tested true e); pairs = w .stores .pairs; sound = m .sound };
@@ -291,14 +295,10 @@ module _ {size : ℕ} {next : ℕ → Bool} {i : ℕ} {x : Runs} {t : ℕ} {y : 
   c : Collection
   c = tryRow size next (getD (runsIn x) i []) t (collectionIn x)
 
-  stored-count : length (c .runs) ≡ y .count
-  unfolding c
-  stored-count = ap length (sym (w .row .stores .runs)) ∙ sound-length (w .row .stores .sound)
-
   -- Where every state is marked, the row has ended.
   pub pairs-ended : y .count ≡ size → t ≤ size → Stores (tryRow size next (getD (runsIn x) i []) size (collectionIn x)) y
   unfolding c
-  pairs-ended e h = rw (tryRow-stays size next (getD (runsIn x) i []) t (collectionIn x) (stored-count ∙ e) size h) (w .row .stores)
+  pairs-ended e h = rw (tryRow-stays size next (getD (runsIn x) i []) t (collectionIn x) (stores-count (w .row .stores) ∙ e) size h) (w .row .stores)
 
   -- Where not, the next pair is counted,
   pair-counted : RowStored i (runsIn x) (record { runs = c .runs; pairs = c .pairs + 1 }) (counted y)
@@ -327,7 +327,7 @@ module _ {size : ℕ} {next : ℕ → Bool} {i : ℕ} {x : Runs} {t : ℕ} {y : 
   unfolding c
   next-pair h =
       tryRow-next size next (getD (runsIn x) i []) t (collectionIn x)
-      ∙ tryPair-tried size next (getD (runsIn x) i []) t c (λ e. h (sym stored-count ∙ e))
+      ∙ tryPair-tried size next (getD (runsIn x) i []) t c (λ e. h (sym (stores-count (w .row .stores)) ∙ e))
 
   -- and the state is passed over,
   pub pair-passed : y .count ≢ size → (next t && not (getD (y .marks) t false)) ≡ false → PairsStored size next i x (t + 1) (counted y)
@@ -347,17 +347,14 @@ module _ {size : ℕ} {next : ℕ → Bool} {i : ℕ} {x : Runs} {t : ℕ} {y : 
 -- ---- the whole search
 
 module _ (M : System) (i : ℕ) {x : Runs} (a : Stores (explored M i) x) where
-  stored-length : length (explored M i .runs) ≡ x .count
-  stored-length = ap length (sym (a .runs)) ∙ sound-length (a .sound)
-
   pub stores-short : x .count ≤ M .size
-  stores-short = omega (arith, stored-length, explored-short M i)
+  stores-short = omega (arith, stores-count a, explored-short M i)
 
   -- Every run ends in a state of the system.
   pub stores-state : (k : ℕ) → k < x .count → getD (x .order) k 0 < M .size
   stores-state k h =
       subst (λ s. s < M .size) (ap (λ q. last (getD q k [])) (sym (a .runs)) ∙ sound-last (a .sound) k h)
-      (walk-last (getD (explored M i .runs) k []) (explored-collected M i .runs k (omega (arith, stored-length))))
+      (walk-last (getD (explored M i .runs) k []) (explored-collected M i .runs k (omega (arith, stores-count a))))
 
   -- No more pairs have been tried than there are.
   pub stores-tried : M .size ≤ 128 → i ≤ 128 → x .pairs ≤ 128 * 128
@@ -367,26 +364,26 @@ module _ (M : System) (i : ℕ) {x : Runs} (a : Stores (explored M i) x) where
   pub stores-next : {y : Runs} → i < x .count
       → Stores (tryRow (M .size) (M .step (getD (x .order) i 0)) (getD (runsIn x) i []) (M .size) (collectionIn x)) y → Stores (explored M (i + 1)) y
   unfolding collectionIn
-  stores-next {y} h b = rw (explored-next M i (omega (arith, stored-length)), ← last-is, ← a .runs, ← a .pairs) b
+  stores-next {y} h b = rw (explored-next M i (omega (arith, stores-count a)), ← last-is, ← a .runs, ← a .pairs) b
     where
       last-is : getD (x .order) i 0 ≡ last (getD (explored M i .runs) i [])
       last-is = sym (sound-last (a .sound) i h) ∙ ap (λ q. last (getD q i [])) (a .runs)
 
   -- Where every run has been tried, the search has ended;
   pub stores-all : x .count ≤ i → Stores (search M) x
-  stores-all h = rw (search-ended M i (omega (arith, stored-length))) a
+  stores-all h = rw (search-ended M i (omega (arith, stores-count a))) a
 
   -- and where every state is marked.
   pub stores-full : x .count ≡ M .size → i ≤ M .size → Stores (search M) x
   unfolding search
-  stores-full e h = rw (explored-full M i (stored-length ∙ e) (M .size) h) a
+  stores-full e h = rw (explored-full M i (stores-count a ∙ e) (M .size) h) a
 
 -- The marks, the count and the pairs of the whole search are its answer.
 pub stored-reached : (M : System) (x : Runs) → Stores (search M) x
     → _≡_ {A = Reached} (record { marks = x .marks; count = x .count; pairs = x .pairs }) (reachedOf M)
 unfolding reachedOf
 stored-reached M x a =
-    ap₂ (λ m n. record { marks = m; count = n; pairs = x .pairs }) marks (sym (ap length (sym (a .runs)) ∙ sound-length (a .sound)))
+    ap₂ (λ m n. record { marks = m; count = n; pairs = x .pairs }) marks (sym (stores-count a))
     ∙ ap (λ n. record { marks = tabulate 128 (isMarked (search M .runs)); count = length (search M .runs); pairs = n }) (a .pairs)
   where
     marks : x .marks ≡ tabulate 128 (isMarked (search M .runs))

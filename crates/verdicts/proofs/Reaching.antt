@@ -32,7 +32,7 @@ use Rattle.verdicts.specs.Marks.{markOf, hasBits, anyWith, isOpen, First
 -- ---- one mark
 
 -- It is reached and bad; and its row has been walked.
-abbrev pub isHit : ℕ → Bool
+abbrev isHit : ℕ → Bool
 isHit = hasBits 5
 
 unfoldable isWalked : ℕ → Bool

@@ -71,6 +71,9 @@ module _ {text : List ℕ} {m : Model} (r : IsRead text m) where
   pub rules-read : m .rules ≡ rulesIn text
   rules-read = ap (λ x. x .rules) (r .model) ∙ sym (rules-told text)
 
+  pub set-read : {S : ℕ} → S < 2 ^ m .rules → S < 2 ^ rulesIn text
+  set-read h = rw rules-read at h
+
 -- ---- what a call gives
 
 module _ {A : Type 0} (refuse : ℕ → ℕ → A) (a : A) where

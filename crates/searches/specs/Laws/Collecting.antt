@@ -1,15 +1,15 @@
 -- How many pairs the search of `Search` tries: what document 02 says of them (`Collecting`) is true for every transition system, and systems that agree
 -- on their states have the same search. From the steps of the search and from what it finds. Assumes nothing.
 use Prim.Native.Nat.{ℕ, zero, suc, _+_, _*_, _≤_, _<_}
-use mathlib.Core.Path.{_≡_, refl, sym, ap, ap₂, _∙_}
-use mathlib.Core.Logic.{_≢_, ⊎-elim}
+use mathlib.Core.Path.{_≡_, refl, sym, ap, _∙_}
+use mathlib.Core.Logic.{⊎-elim}
 use mathlib.Core.Bool.{Bool, true, false, not, cond, _&&_}
 use mathlib.Core.List.{List, [], _∷_, _++_}
 use mathlib.Mathlib.Data.Bool.Basic.{dichotomy, eq-false-of-not-eq-true}
 use native.Mathlib.Decide.{le-ind}
 use native.Mathlib.Omega.{arith}
 use native.Mathlib.Numerals.{add-one}
-use borrow.Author.Tests.{eqb-true, eqb-false, ltb-true, ltb-false}
+use borrow.Author.Tests.{ltb-true, ltb-false}
 use lib.Dec.{eqb, ltb}
 use lib.ListN.{length, getD, length-append}
 use Rattle.sets.specs.Tabulated.{tabulate}
@@ -17,7 +17,7 @@ use Rattle.systems.specs.Count.{count}
 use Rattle.systems.specs.Laws.Count.{count-all, count-less, count-same}
 use Rattle.systems.specs.Laws.Compare.{Same}
 use Rattle.systems.specs.Laws.Walks.{walk-last}
-use Rattle.systems.specs.System.{System, last, Reached}
+use Rattle.systems.specs.System.{System, last}
 use Rattle.searches.specs.Search.{Collection, isMarked, tryState, startsBelow, pairTried, tryPair, tryRow, explored, search}
 use Rattle.searches.specs.Stored.{reachedOf}
 use Rattle.searches.specs.Collecting.{Collecting}
@@ -248,7 +248,7 @@ module _ {N M : System} (e : Same N M) where
               ∙ ap (λ d. let m = getD (d .runs) i [] in tryRow (M .size) (M .step (last m)) m (M .size) d) same
               ∙ sym (explored-next M i (omega (arith, h, size-same)))
 
-  pub same-search : search N ≡ search M
+  same-search : search N ≡ search M
   unfolding search
   same-search = explored-same (N .size) ∙ ap (explored M) (e .size)
 

@@ -11,7 +11,7 @@ use native.Mathlib.Nat.{eq-or-lt-of-le}
 use native.Mathlib.Omega.{arith}
 use native.Mathlib.Numerals.{add-one}
 use borrow.Author.Count.{below-more}
-use borrow.Author.Tests.{eq-eqb, ne-eqb, eqb-true, eqb-false, ltb-true, ltb-false, leb-true, leb-false}
+use borrow.Author.Tests.{eq-eqb, ne-eqb, ltb-true, ltb-false, leb-true, leb-false}
 use lib.Dec.{eqb, leb, ltb}
 use lib.ListN.{length, getD, length-append, List·getD-append, List·getD-eq-default}
 use lib.Seq.{getD-append-seam}
@@ -132,7 +132,7 @@ module _ {M : System} {q : List (List ℕ)} (f : Collected M q) where
   collected-short = omega (arith, f .counted, count-le (M .size) (isMarked q))
 
   -- all are marked where there are as many,
-  pub collected-full : length q ≡ M .size → (t : ℕ) → t < M .size → isMarked q t ≡ true
+  collected-full : length q ≡ M .size → (t : ℕ) → t < M .size → isMarked q t ≡ true
   collected-full full t h =
       eq-true-of-not-eq-false
       (λ e. omega (arith, f .counted, count-less (isMarked q) (M .size) t h e))

@@ -120,7 +120,7 @@ module _ (size : ℕ) (next : ℕ → Bool) (r : List ℕ) where
   unfolding tryPair
   tryPair-tried t c h = ap (λ b. cond b c (pairTried next r t c)) (ne-eqb (length (c .runs)) size h)
 
-  pub tryPair-ended : (t : ℕ) (c : Collection) → length (c .runs) ≡ size → tryPair size next r t c ≡ c
+  tryPair-ended : (t : ℕ) (c : Collection) → length (c .runs) ≡ size → tryPair size next r t c ≡ c
   unfolding tryPair
   tryPair-ended t c e = ap (λ b. cond b c (pairTried next r t c)) (eq-eqb (length (c .runs)) size e)
 

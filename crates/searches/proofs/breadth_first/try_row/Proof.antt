@@ -6,7 +6,7 @@ use mathlib.Core.Logic.{⊎-elim}
 use native.Mathlib.Omega.{arith}
 use borrow.Author.Needs.{needs}
 use Rattle.systems.specs.ByTables.{stepBy}
-use Rattle.searches.specs.Stored.{runsIn, withRun}
+use Rattle.searches.specs.Stored.{withRun}
 use Rattle.searches.proofs.Stored.{PairsStored, pairs-none, pairs-ended, pair-passed, pair-room, pair-taken, counted, sound-few}
 use Rattle.searches.proofs.breadth_first.try_row.Statement.{statement}
 use Rattle.searches.proofs.breadth_first.try_row.Tie as tie
