@@ -5,18 +5,20 @@
  * repeats what a host needs. It is C99, and C++98 or later.
  *
  * A model is a text: named Boolean rules over one second and the next, and one to four
- * properties. Seven calls read it:
+ * properties. Eight calls read it:
  *
- *   codremif_judge   does a set of rules keep every property in every state that can be reached?
- *                    If not: a shortest run to a bad state
- *   codremif_reached which states does a set of rules reach, and how many pairs of states were
- *                    tried to find them?
- *   codremif_cores   every core: a set of rules that holds and has no proper part that holds
- *   codremif_cuts    every cut: a set of rules whose removal leaves a broken set, while no
- *                    proper part of it does that
- *   codremif_must    MUST: the rules that all cores have in common
- *   codremif_may     MAY: the rules that some core has, but not all cores have
- *   codremif_irr     the irrelevant rules: those that no core has
+ *   codremif_judge    does a set of rules keep every property in every state that can be
+ *                     reached? If not: a shortest run to a bad state
+ *   codremif_reached  which states does a set of rules reach, and how many pairs of states were
+ *                     tried to find them?
+ *   codremif_cores    every core: a set of rules that holds and has no proper part that holds
+ *   codremif_cuts     every cut: a set of rules whose removal leaves a broken set, while no
+ *                     proper part of it does that
+ *   codremif_must     MUST: the rules that all cores have in common
+ *   codremif_may      MAY: the rules that some core has, but not all cores have
+ *   codremif_irr      the irrelevant rules: those that no core has
+ *   codremif_one_core one core, by the caller's order of preference, and how many sets were judged
+ *                     to find it
  *
  * Two calls read no text. They look a set up in a list of cores and a list of cuts, for a screen
  * that has both lists already and asks at each click:
@@ -51,6 +53,16 @@
  *         ... as above ...
  *     for (size_t state = 0; state < sizeof marks; state++)
  *         ... marks[state] is 1 if the set reaches the state, else 0, as it was past 2^N ...
+ *
+ *   With an order of the places of its rules, one byte for each, the rule that is dearest last:
+ *
+ *     uint64_t answer = codremif_one_core(text, length, order, order_len);
+ *     if (!codremif_accepted(answer))
+ *         ... as above ...
+ *     if (codremif_holds(answer))
+ *         ... codremif_set(answer) is the core that is found, and may be set 0 ...
+ *     else
+ *         ... there is no core: the full set is broken ...
  *
  *   With the list of its cores, of `cores_len` bytes, the list of its cuts, of `cuts_len`, and a
  *   chosen set:
@@ -96,6 +108,8 @@
  *   A list (of cores or of cuts) has two bytes for each set, low byte first (codremif_set_at
  *   reads one), fewer rules first, then the smaller set number first. Each set stands in it once.
  *   Marks are one byte for each state by number, 2^N bytes: 1 if it is reached, 0 if it is not.
+ *   The place of a rule is a number from 0 to R - 1: the first rule in the text has place 0.
+ *   An order is R bytes that have each place exactly once.
  *
  * Reached states. A state is reached by a set if some run of the set ends in it; every start state
  *   is. codremif_reached marks the start states first, by number; then each marked state, in the
@@ -111,6 +125,13 @@
  *   The joint trace is the first of the traces by each property, in the order above: shorter ones
  *   first. The joint cores are those unions of one core by each property that have no other such
  *   union as a proper part.
+ *
+ * One core. codremif_one_core judges the full set. If it is broken, there is no core, and this was
+ *   the one judgement. If it holds, each rule, in the order given, is dropped when the remaining
+ *   set still holds: one judgement for each, R + 1 in all. So the rules that the caller would
+ *   rather lose come first in the order, and the dearest last. What is left is a core, whatever
+ *   the order is. Each core is left by some order: by each that has the rules outside the core
+ *   before those in it.
  *
  * Looking a set up. A listed core is inside a set if each of its rules is in the set. A listed cut
  *   is apart from a set if none of its rules is in the set. The core list is searched first, for
@@ -135,35 +156,37 @@
  *   codremif_count of the cores is then 1 or more. If the full set is broken, there is no core,
  *   and the one cut is set 0. If set 0 holds, it is the one core, and there is no cut. In both
  *   cases MUST and MAY are 0, and every rule is irrelevant: these three do not say which it is.
+ *   codremif_one_core gives set 0 in both, and codremif_holds of its answer tells them apart.
  *
- * Who owns what. The caller owns all memory. The text is only read, and so are the two lists in
- *   which a set is looked up (`cores`, `cuts`). Lent bytes (`trace`, `marks`, `sets`) are written
- *   from their start, and bytes past the trace, the marks or the list keep their content; what
- *   they held before makes no difference to an answer. No pointer is kept after the call. A
- *   witness is two bytes of the caller's own list and no copy. The calls need no alignment.
+ * Who owns what. The caller owns all memory. The text is only read, and so are the order (`order`)
+ *   and the two lists in which a set is looked up (`cores`, `cuts`). Lent bytes (`trace`, `marks`,
+ *   `sets`) are written from their start, and bytes past the trace, the marks or the list keep
+ *   their content; what they held before makes no difference to an answer. No pointer is kept
+ *   after the call. A witness is two bytes of the caller's own list and no copy. The calls need no
+ *   alignment.
  *
  * What the host answers for. Each pointer leads to as many bytes as the length beside it says,
- *   and lent bytes overlap nothing else that is handed over. The two lists in which a set is
- *   looked up are not lent: they may overlap, and may be the same memory. While a call runs
- *   nothing else writes the text or these lists, and nothing else reads or writes the lent bytes.
+ *   and lent bytes overlap nothing else that is handed over. The text, the order and the two lists
+ *   in which a set is looked up are not lent: they may overlap, and may be the same memory. While
+ *   a call runs nothing else writes these, and nothing else reads or writes the lent bytes.
  *   Nothing can check these, and if they fail nothing is promised. With a length of 0 the pointer
  *   is not used and may be NULL. Everything else may be handed over: any bytes, any length, any
  *   set number. Every call ends, with an answer or refused.
  *
  * A refused call. Its answer has the number and the line of the first ground that fits (enum
  *   codremif_refusal), and every other part of it is 0: the verdict then reads broken, the
- *   length, count, set or pairs read 0, and a set that is looked up reads unlisted. So ask
- *   codremif_accepted first. No lent byte has changed.
+ *   length, count, set, pairs or judgements read 0, and a set that is looked up reads unlisted. So
+ *   ask codremif_accepted first. No lent byte has changed.
  *
  * How much to lend. A call does not tell how many bytes it would have needed. Lend
  *   CODREMIF_TRACE_BYTES, CODREMIF_MARK_BYTES or CODREMIF_LIST_BYTES: these are enough for every
  *   model, and such a call is never refused by 11.
  *
  * Threads and signals. The library has no global state and nothing in it is written: any number
- *   of threads may call it at once, on the same text or lists too, with lent bytes of their own.
- *   It installs no signal handler and raises no signal. For the same reason a signal handler may
- *   call it, also where the signal came in the middle of a call, if the handler's stack has the
- *   room (below) and the lent bytes are its own.
+ *   of threads may call it at once, on the same text, order or lists too, with lent bytes of their
+ *   own. It installs no signal handler and raises no signal. For the same reason a signal handler
+ *   may call it, also where the signal came in the middle of a call, if the handler's stack has
+ *   the room (below) and the lent bytes are its own.
  *
  * Heap and system. No malloc, no file, no system call, no lock, no errno. The archive needs
  *   memcpy and memset and nothing else. Its code uses SSE2, which every x86-64 processor has, and
@@ -171,13 +194,14 @@
  *   see past a frame of the library. Nothing is thrown, and no function of the host is called, so
  *   no exception ever has to pass it.
  *
- * Time. Judging a set, marking the states that it reaches and giving MUST take a millisecond or
- *   two at the most, on one core of a machine of today; so do the lists of nearly every model. The
- *   time of a list grows with the cores and cuts: where a model has thousands of both it takes
- *   some ten milliseconds (40 is the most that was seen, on models/pages/eight_pages.txt). MAY and
- *   the irrelevant rules take as long as a list. Looking a set up takes at most 2 nanoseconds for
- *   each listed set that is passed over, and a few beside: 52 microseconds for two lists of
- *   CODREMIF_LIST_SETS. This is measured, not proved. That a call ends is proved.
+ * Time. Judging a set, marking the states that it reaches, giving MUST and finding one core take a
+ *   millisecond or two at the most, on one processor of a machine of today; so do the lists of
+ *   nearly every model. One core takes at most a tenth longer than MUST. The time of a list grows
+ *   with the cores and cuts: where a model has thousands of both it takes some ten milliseconds
+ *   (40 is the most that was seen, on models/pages/eight_pages.txt). MAY and the irrelevant rules
+ *   take as long as a list. Looking a set up takes at most 2 nanoseconds for each listed set that
+ *   is passed over, and a few beside: 52 microseconds for two lists of CODREMIF_LIST_SETS. This is
+ *   measured, not proved. That a call ends is proved.
  *
  * Stack. A call takes all its memory from the caller's stack: CODREMIF_STACK_BYTES at most, below
  *   the frame of the caller, what memcpy and memset take included. hosts/c measures it, and adds
@@ -213,8 +237,8 @@ extern "C" {
 #endif
 
 /* The version that this header belongs to: major * 1,000,000 + minor * 1,000 + patch. */
-#define CODREMIF_VERSION 1004000
-#define CODREMIF_VERSION_STRING "1.4.0"
+#define CODREMIF_VERSION 1005000
+#define CODREMIF_VERSION_STRING "1.5.0"
 
 /* An accepted text has at most so many bytes: two counts, `init`, four properties and 16 rules at
  * their longest. */
@@ -254,15 +278,16 @@ extern "C" {
 #define CODREMIF_MUST_STACK_BYTES 65536
 #define CODREMIF_MAY_STACK_BYTES 131072
 #define CODREMIF_IRR_STACK_BYTES 131072
+#define CODREMIF_ONE_CORE_STACK_BYTES 65536
 #define CODREMIF_SUFFICES_STACK_BYTES 1024
 #define CODREMIF_WITNESS_STACK_BYTES 1024
 #define CODREMIF_STACK_BYTES 131072
 
 /*
  * Why a call is refused; docs/FORMAT.md has an example of each. Numbers 1 to 8 are tried line by
- * line, in this order within a line; after the whole text come 9, 10 and 11. The two calls that
- * read no text try 12 and nothing else. The first line is 1; a number that concerns no line gives
- * line 0. codremif_words has the same words.
+ * line, in this order within a line; after the whole text come 9, 10 and 11, and where an order is
+ * handed over 13 after 9. The two calls that read no text try 12 and nothing else. The first line
+ * is 1; a number that concerns no line gives line 0. codremif_words has the same words.
  */
 enum codremif_refusal {
     /* Where no number fits, the call is accepted. */
@@ -291,7 +316,9 @@ enum codremif_refusal {
     /* The lent bytes are fewer than this answer's trace or list needs (line 0). */
     CODREMIF_TOO_FEW_BYTES = 11,
     /* A list has an odd count of bytes (line 0). */
-    CODREMIF_ODD_LIST = 12
+    CODREMIF_ODD_LIST = 12,
+    /* The order is not R bytes that have each place from 0 to R - 1 exactly once (line 0). */
+    CODREMIF_NOT_AN_ORDER = 13
 };
 
 /* What codremif_suffices says of a set. */
@@ -315,7 +342,8 @@ enum codremif_lookup {
 /*
  * The calls. Each answer is one 64-bit number: the number of the refusal (0: accepted), plus 256
  * times the line, plus 65,536 times the length, count, set, pairs or what is said of a set, plus
- * 2^40 for a verdict that holds or a core inside. Take it apart with the functions below.
+ * 2^40 for a verdict that holds or a core inside, plus 2^41 times the judgements. Take it apart
+ * with the functions below.
  */
 
 /*
@@ -371,6 +399,18 @@ CODREMIF_LOOK_AT_IT
 uint64_t codremif_irr(const uint8_t *text, size_t text_len);
 
 /*
+ * Finds one core in the caller's order of preference, which is the places of the rules as bytes,
+ * dearest last. Accepted: codremif_judgements; and where the full set holds (codremif_holds)
+ * codremif_set, the core that is found, after R + 1 judgements. Where the full set is broken,
+ * there is no core: codremif_holds is 0, codremif_set is 0, and there was 1 judgement.
+ * Refused by 1 to 9 (the text), 13 (the order: too few places or too many, a place twice, or a
+ * place of R or more). It lends nothing.
+ */
+CODREMIF_LOOK_AT_IT
+uint64_t codremif_one_core(const uint8_t *text, size_t text_len, const uint8_t *order,
+                           size_t order_len);
+
+/*
  * Looks a set up in two lists, two bytes for each set as codremif_cores and codremif_cuts write
  * them. Accepted: codremif_said. Refused by 12 (cores_len or cuts_len is odd, or both are).
  * It is given no text and lends nothing.
@@ -419,6 +459,7 @@ static inline unsigned codremif_line(uint64_t answer)
 }
 
 /* Of codremif_judge: 1 if the set holds; 0 if it is broken, and if the call is refused.
+ * Of codremif_one_core: the same of the full set, so 1 if there is a core and one is found.
  * Of codremif_suffices: 1 if a listed core is inside the set; else 0. */
 static inline int codremif_holds(uint64_t answer)
 {
@@ -443,10 +484,17 @@ static inline size_t codremif_count(uint64_t answer)
     return (answer >> 16) & 0xFFFFFF;
 }
 
-/* Of codremif_must, codremif_may and codremif_irr: the set. */
+/* Of codremif_must, codremif_may and codremif_irr: the set. Of codremif_one_core: the core that is
+ * found; 0 too where codremif_holds says that there is none. */
 static inline uint32_t codremif_set(uint64_t answer)
 {
     return (answer >> 16) & 0xFFFFFF;
+}
+
+/* Of codremif_one_core: how many sets were judged, the full set included. */
+static inline size_t codremif_judgements(uint64_t answer)
+{
+    return answer >> 41;
 }
 
 /* Of codremif_suffices: what it says of the set, one of enum codremif_lookup. */
@@ -498,6 +546,8 @@ static inline const char *codremif_words(unsigned number)
     case CODREMIF_TOO_FEW_BYTES: return "The lent bytes are fewer than this answer's trace or "
         "list needs (line 0).";
     case CODREMIF_ODD_LIST: return "A list has an odd count of bytes (line 0).";
+    case CODREMIF_NOT_AN_ORDER: return "The order is not R bytes that have each place from 0 to "
+        "R - 1 exactly once (line 0).";
     default: return "";
     }
 }

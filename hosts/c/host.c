@@ -2,10 +2,11 @@
  * A small C host: host MODEL-FILE [SET]
  *
  * Reads a model file, judges the set of rules (the full set if none is given) and prints the verdict, the trace if it is broken, how many states the
- * set reaches and which, how many pairs of states were tried for them, MUST, MAY, the irrelevant rules, the cores and the cuts, each set as its number
- * and its names. All but the reached states is for the properties of the model jointly. Last, it looks the set up in the two lists, as a screen does
- * that has them already: `inside=` is the first core inside the set, `apart=` the first cut apart from it. Exit status and messages are those of
- * ./report: 0 answered; 1 refused, with one line on standard error; 2 wrong use, or something could not be read or written.
+ * set reaches and which, how many pairs of states were tried for them, MUST, MAY, the irrelevant rules, one core, the cores and the cuts, each set as
+ * its number and its names. All but the reached states is for the properties of the model jointly. The one core is found with the rules of the set
+ * dearer than the others, so that it is inside the set where the set holds. Last, the host looks the set up in the two lists, as a screen does that
+ * has them already: `inside=` is the first core inside the set, `apart=` the first cut apart from it. Exit status and messages are those of ./report:
+ * 0 answered; 1 refused, with one line on standard error; 2 wrong use, or something could not be read or written.
  */
 #include <errno.h>
 #include <stdio.h>
@@ -123,6 +124,32 @@ static int show_set(const char *key, set_call call, const struct text *text)
     return 1;
 }
 
+/* The places of the rules outside a set, and then those of the rules in it. Gives how many there are. */
+static size_t order_for(uint32_t set, unsigned rules, uint8_t *order)
+{
+    size_t length = 0;
+    for (uint32_t inside = 0; inside <= 1; inside++)
+        for (unsigned place = 0; place < rules; place++)
+            if ((set >> place & 1) == inside)
+                order[length++] = (uint8_t)place;
+    return length;
+}
+
+static int show_one_core(const struct text *text, uint32_t set)
+{
+    uint8_t order[CODREMIF_RULES];
+    size_t length = order_for(set, codremif_rules(text->bytes, text->length), order);
+    uint64_t answer = codremif_one_core(text->bytes, text->length, order, length);
+    if (!accepted(answer))
+        return 0;
+    if (codremif_holds(answer))
+        print_set("one_core", text, codremif_set(answer));
+    else
+        printf("no_core\n");
+    printf("judgements=%lu\n", (unsigned long)codremif_judgements(answer));
+    return 1;
+}
+
 static int show_list(const char *key, list_call call, const struct text *text, struct list *list)
 {
     uint64_t answer = call(text->bytes, text->length, list->bytes, sizeof list->bytes);
@@ -198,8 +225,9 @@ int main(int argc, char **argv)
     if (argc == 2)
         set = codremif_full_set(text.bytes, text.length);
     if (!show_verdict(&text, set) || !show_reached(&text, set) || !show_set("must", codremif_must, &text) ||
-        !show_set("may", codremif_may, &text) || !show_set("irr", codremif_irr, &text) || !show_list("core", codremif_cores, &text, &cores) ||
-        !show_list("cut", codremif_cuts, &text, &cuts) || !show_witness(&text, set, &cores, &cuts))
+        !show_set("may", codremif_may, &text) || !show_set("irr", codremif_irr, &text) || !show_one_core(&text, set) ||
+        !show_list("core", codremif_cores, &text, &cores) || !show_list("cut", codremif_cuts, &text, &cuts) ||
+        !show_witness(&text, set, &cores, &cuts))
         return written(REFUSED);
     return written(ANSWERED);
 }

@@ -4,14 +4,11 @@
  * So a byte that is read too many, and any byte that is written, ends the program. What a page has beside the list is 0: as a listed core it would be
  * inside every set, and as a listed cut apart from every set.
  */
-#define _DEFAULT_SOURCE
 #include <stdio.h>
 #include <stdlib.h>
-#include <string.h>
-#include <sys/mman.h>
-#include <unistd.h>
 
 #include "codremif.h"
+#include "fences.h"
 #include "models.h"
 
 /* The answers that there are. */
@@ -45,40 +42,6 @@ static struct list part_of(struct list list, size_t length)
     return (struct list){list.bytes, length};
 }
 
-/* A list in pages of its own, between two that cannot be touched. One without bytes is at the border of two such pages. */
-enum side { BEHIND_THE_FIRST, BEFORE_THE_SECOND };
-
-struct fenced {
-    uint8_t *pages;
-    size_t size;
-    struct list list;
-};
-
-static struct fenced fence(struct list list, enum side side)
-{
-    size_t page = (size_t)sysconf(_SC_PAGESIZE), room = (list.length + page - 1) / page * page;
-    struct fenced fenced = {NULL, room + 2 * page, list};
-    fenced.pages = mmap(NULL, fenced.size, PROT_NONE, MAP_PRIVATE | MAP_ANONYMOUS, -1, 0);
-    if (fenced.pages == MAP_FAILED)
-        abort();
-    uint8_t *bytes = fenced.pages + page + (side == BEFORE_THE_SECOND ? room - list.length : 0);
-    if (room > 0) {
-        if (mprotect(fenced.pages + page, room, PROT_READ | PROT_WRITE) != 0)
-            abort();
-        memcpy(bytes, list.bytes, list.length);
-        if (mprotect(fenced.pages + page, room, PROT_READ) != 0)
-            abort();
-    }
-    fenced.list.bytes = bytes;
-    return fenced;
-}
-
-static void take_down(struct fenced *fenced)
-{
-    if (munmap(fenced->pages, fenced->size) != 0)
-        abort();
-}
-
 /* Whether both calls answer so where these very bytes are handed over, and the witness is two bytes of the right list. */
 static int answers(uint32_t set, struct list cores, struct list cuts, uint64_t answer, uint64_t byte_place)
 {
@@ -97,9 +60,10 @@ static int looked_up(uint32_t set, struct list cores, struct list cuts, uint64_t
 {
     int good = 1;
     for (int sides = 0; sides < 4; sides++) {
-        struct fenced fenced_cores = fence(cores, sides & 1 ? BEFORE_THE_SECOND : BEHIND_THE_FIRST);
-        struct fenced fenced_cuts = fence(cuts, sides & 2 ? BEFORE_THE_SECOND : BEHIND_THE_FIRST);
-        good = answers(set, fenced_cores.list, fenced_cuts.list, answer, byte_place) && good;
+        struct fenced fenced_cores = fence(cores.bytes, cores.length, sides & 1 ? BEFORE_THE_SECOND : BEHIND_THE_FIRST);
+        struct fenced fenced_cuts = fence(cuts.bytes, cuts.length, sides & 2 ? BEFORE_THE_SECOND : BEHIND_THE_FIRST);
+        struct list read_cores = {fenced_cores.bytes, cores.length}, read_cuts = {fenced_cuts.bytes, cuts.length};
+        good = answers(set, read_cores, read_cuts, answer, byte_place) && good;
         take_down(&fenced_cores);
         take_down(&fenced_cuts);
     }

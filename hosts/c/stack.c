@@ -21,7 +21,7 @@
 /* What a call without an array may be stated to need: so little is not rounded up as the others are. */
 #define SMALL_BYTES 1024
 
-enum call { JUDGE, REACHED, CORES, CUTS, MUST, MAY, IRR, SUFFICES, WITNESS, CALLS };
+enum call { JUDGE, REACHED, CORES, CUTS, MUST, MAY, IRR, ONE_CORE, SUFFICES, WITNESS, CALLS };
 
 static const struct {
     const char *name;
@@ -34,12 +34,16 @@ static const struct {
     {"codremif_must", CODREMIF_MUST_STACK_BYTES},
     {"codremif_may", CODREMIF_MAY_STACK_BYTES},
     {"codremif_irr", CODREMIF_IRR_STACK_BYTES},
+    {"codremif_one_core", CODREMIF_ONE_CORE_STACK_BYTES},
     {"codremif_suffices", CODREMIF_SUFFICES_STACK_BYTES},
     {"codremif_witness", CODREMIF_WITNESS_STACK_BYTES},
 };
 
 /* What is lent to a call, or handed over as both lists to one that looks a set up. */
 static uint8_t lent[CODREMIF_LIST_BYTES];
+
+/* So many of these bytes are an order of so many rules; `lent_length` says how many are handed over. */
+static const uint8_t order[CODREMIF_RULES + 1] = {0, 1, 2, 3, 4, 5, 6, 7, 8, 9, 10, 11, 12, 13, 14, 15, 16};
 
 static size_t most[CALLS];
 static size_t widest_gap;
@@ -77,6 +81,7 @@ static uint64_t ask(const struct run *run)
     case MUST: return codremif_must(text, length);
     case MAY: return codremif_may(text, length);
     case IRR: return codremif_irr(text, length);
+    case ONE_CORE: return codremif_one_core(text, length, order, run->lent_length);
     case SUFFICES: return codremif_suffices(run->set, run->lent, run->lent_length, run->lent, run->lent_length);
     default: return codremif_witness(run->set, run->lent, run->lent_length, run->lent, run->lent_length);
     }
@@ -129,8 +134,8 @@ static uint64_t measure(const struct model *model, enum call call, uint32_t set,
 }
 
 /*
- * Every call on a model: sets that hold and sets that are broken, and one that no model has; enough lent bytes, and too few. The model is
- * meant to be refused by the number, so that a slip in a text does not pass for a large model.
+ * Every call on a model: sets that hold and sets that are broken, and one that no model has; enough lent bytes, and too few; an order, and a byte too
+ * many. The model is meant to be refused by the number, so that a slip in a text does not pass for a large model.
  */
 static void measure_all(const struct model *model, unsigned number)
 {
@@ -147,6 +152,9 @@ static void measure_all(const struct model *model, unsigned number)
     }
     for (enum call call = MUST; call <= IRR; call++)
         as_meant = codremif_number(measure(model, call, 0, 0)) == number && as_meant;
+    size_t rules = codremif_rules((const uint8_t *)model->text, model->length);
+    as_meant = codremif_number(measure(model, ONE_CORE, 0, rules)) == number && as_meant;
+    as_meant = codremif_number(measure(model, ONE_CORE, 0, rules + 1)) == (number == CODREMIF_ACCEPTED ? CODREMIF_NOT_AN_ORDER : number) && as_meant;
 }
 
 #define TIMES_4(x) x x x x
@@ -239,6 +247,6 @@ int main(void)
     }
     check(all == CODREMIF_STACK_BYTES, "CODREMIF_STACK_BYTES is the most of them");
     check(widest_gap < PAGE_BYTES, "no page of the stack is passed over");
-    check(as_meant, "each model and each list is accepted or refused as it is meant to be");
+    check(as_meant, "each model, each order and each list is accepted or refused as it is meant to be");
     return failures != 0;
 }

@@ -2,9 +2,9 @@
  * texts COUNT: tests of what the header itself reads: how many rules an accepted text has, its full set and the names of its rules. Random models
  * with one to four properties are written here, so what is expected is known, and the library is asked whether it sees as many rules, whether MUST,
  * MAY and the irrelevant rules make up the full set, whether what is said of a set that is looked up in the two lists agrees with judging it,
- * whether what it says of a set jointly follows from what it says by each property, and whether a set reaches the states of its trace and no state
- * that it does not reach with fewer rules. Each text stands in a block of its own length, so that valgrind sees a byte too many; cut-off and damaged
- * texts must do no harm.
+ * whether what it says of a set jointly follows from what it says by each property, whether a set reaches the states of its trace and no state
+ * that it does not reach with fewer rules, and whether each order finds a listed core and each listed core is found by an order. Each text stands
+ * in a block of its own length, so that valgrind sees a byte too many; cut-off and damaged texts must do no harm.
  */
 #include <stdio.h>
 #include <stdlib.h>
@@ -311,6 +311,74 @@ static void test_random_reached(unsigned count)
     check(marked.more == 0, "random models: with a rule more a set reaches no state more");
 }
 
+/* What came up of the cores that orders find in random models, and what was wrong. */
+struct found {
+    unsigned cores, no_core, another, unlisted, not_counted, missed;
+};
+
+/* An order that has the rules outside the set first, and is any beside that. Its length is how many rules there are. */
+static void random_order(uint8_t *order, unsigned rules, uint32_t set)
+{
+    unsigned length = 0;
+    for (uint32_t inside = 0; inside <= 1; inside++)
+        for (unsigned place = 0, first = length; place < rules; place++)
+            if ((set >> place & 1) == inside) {
+                unsigned at = first + below(length - first + 1);
+                memmove(order + at + 1, order + at, length - at);
+                order[at] = (uint8_t)place;
+                length++;
+            }
+}
+
+static int is_listed(const uint8_t *sets, size_t count, uint32_t set)
+{
+    for (size_t i = 0; i < count; i++)
+        if (codremif_set_at(sets, i) == set)
+            return 1;
+    return 0;
+}
+
+/* By any order, and by one that leads to a chosen core. */
+static void find_cores(const uint8_t *text, size_t text_len, struct found *found)
+{
+    static uint8_t sets[CODREMIF_LIST_BYTES];
+    uint8_t order[CODREMIF_RULES];
+    unsigned rules = codremif_rules(text, text_len);
+    size_t count = codremif_count(codremif_cores(text, text_len, sets, sizeof sets));
+    random_order(order, rules, 0);
+    uint64_t answer = codremif_one_core(text, text_len, order, rules);
+    if (count == 0) {
+        found->no_core++;
+        found->unlisted += codremif_holds(answer) || codremif_set(answer) != 0;
+        found->not_counted += !codremif_accepted(answer) || codremif_judgements(answer) != 1;
+        return;
+    }
+    found->cores++;
+    found->unlisted += !codremif_holds(answer) || !is_listed(sets, count, codremif_set(answer));
+    found->not_counted += !codremif_accepted(answer) || codremif_judgements(answer) != rules + 1;
+    uint32_t core = codremif_set_at(sets, below((unsigned)count));
+    random_order(order, rules, core);
+    found->another += core != codremif_set(answer);
+    found->missed += codremif_set(codremif_one_core(text, text_len, order, rules)) != core;
+}
+
+static void test_random_orders(unsigned count)
+{
+    struct found found = {0, 0, 0, 0, 0, 0};
+    for (unsigned i = 0; i < count; i++) {
+        struct random_model random;
+        random_model(&random);
+        uint8_t *text = copy(random.joint.text, random.joint.length);
+        find_cores(text, random.joint.length, &found);
+        free(text);
+    }
+    check(found.cores > count / 10 && found.no_core > count / 10 && found.another > count / 20,
+          "random models: orders find cores, not all of them the same, and find none where there is none");
+    check(found.unlisted == 0, "random models: what an order finds is a listed core, and there is none where the list is empty");
+    check(found.not_counted == 0, "random models: one judgement for the full set, and where it holds one for each rule");
+    check(found.missed == 0, "random models: a listed core is found by an order that has the rules outside it first");
+}
+
 /* Of a text that is not accepted nothing is promised but that nothing outside it is read. */
 static void test_other_texts(void)
 {
@@ -353,6 +421,7 @@ int main(int argc, char **argv)
     test_random_lookups(count);
     test_random_properties(count);
     test_random_reached(count);
+    test_random_orders(count);
     test_other_texts();
     test_longest_names();
     return failures != 0;

@@ -1,5 +1,5 @@
--- What masks and tables that were filled from a text answer is what the model means: the verdicts, the search of a set, MUST, the tables of the
--- cores and the cuts; and what is read off these.
+-- What masks and tables that were filled from a text answer is what the model means: the verdicts, the search of a set, MUST, what an
+-- order leaves, the tables of the cores and the cuts; and what is read off these.
 -- From the laws of the filled tables (`semantics`) and of lists of judgements that agree (`sets`). Assumes nothing.
 use Prim.Native.Nat.{ℕ, _^_, _<_}
 use mathlib.Core.Path.{_≡_, ap, ap₂, _∙_}
@@ -8,6 +8,10 @@ use Rattle.sets.specs.Cores.{isCore, isCut}
 use mathlib.Core.Bool.{Bool}
 use Rattle.sets.specs.Lists.{listOf, coresOf, cutsOf, mustOf, common, overwritten}
 use Rattle.sets.specs.Kinds.{someOf}
+use Rattle.sets.specs.declared.one_core.OneCore.{OneCore}
+use Rattle.sets.specs.Orders.{IsOrder}
+use Rattle.sets.specs.OneCore.{oneCoreOf}
+use Rattle.sets.specs.Laws.OneCore.{one-core-agree}
 use Rattle.sets.specs.Laws.Growth.{isCore-agree, isCut-agree, coresOf-agree}
 use Rattle.sets.specs.Laws.Kinds.{some-less-must, full-less-some}
 use Rattle.models.specs.declared.model.Model.{Model}
@@ -27,6 +31,7 @@ use Rattle.sorting.specs.Kinds.{kindsBy, kindsOf}
 use Rattle.marks.specs.Marks.{marked, tableBy, Room}
 use Rattle.marks.specs.Laws.Marks.{tableBy-agree, front-room, front-listed}
 use Rattle.cores.specs.Seeds.{Judges}
+use Rattle.orders.specs.Dropping.{ByOrder}
 use Rattle.sorting.specs.Which.{listed}
 use Rattle.analysis.specs.Lists.{tableOf}
 use Rattle.analysis.specs.Finding.{RoomForSets}
@@ -58,6 +63,16 @@ module _ (text : List ℕ) {before : List ℕ} {m : Model} (r : RoomFor m before
   must-is e =
       e ∙ ap (λ (R : ℕ). mustOf R (judgeBy masks t)) rules-are
       ∙ ap common (coresOf-agree (m .rules) (judgeBy masks t) (judge (described text m)) same-verdict)
+
+  -- what an order leaves
+  pub by-order : {order : List ℕ} → IsOrder (m .rules) order → ByOrder masks t order
+  by-order o = record { room = room; few = rw rules-are (r .few .rules); ordered = rw rules-are o }
+
+  pub one-core-is : (order : List ℕ) {c : OneCore} → c ≡ oneCoreOf (t .rules) (judgeBy masks t) order
+      → c ≡ oneCoreOf (m .rules) (judge (described text m)) order
+  one-core-is order e =
+      e ∙ ap (λ (R : ℕ). oneCoreOf R (judgeBy masks t) order) rules-are
+      ∙ one-core-agree (m .rules) (judgeBy masks t) (judge (described text m)) same-verdict order
 
   -- the tables of the cores and of the cuts
   pub cores-are : tableBy (t .rules) (isCore (judgeBy masks t)) ≡ tableBy (m .rules) (isCore (judge (described text m)))

@@ -6,6 +6,7 @@ use mathlib.Core.Path.{_≡_}
 use mathlib.Core.Logic.{_↔_, _⊎_}
 use mathlib.Core.List.{List, []}
 use lib.ListN.{length}
+use Rattle.sets.specs.Orders.{IsOrder}
 use Rattle.models.specs.Refusals.{FitsAt, ComesBefore}
 use Rattle.systems.specs.System.{Trace}
 use Rattle.sorting.specs.declared.which.WhichList.{WhichList}
@@ -15,7 +16,9 @@ use Rattle.calls.specs.declared.answers.ReachedAnswer.the-variants.{Refused as 
 use Rattle.calls.specs.declared.answers.ListAnswer.the-variants.{Refused as ListRefused}
 use Rattle.calls.specs.declared.answers.SetAnswer.the-variants.{Refused as SetRefused}
 use Rattle.calls.specs.Answers.{rulesIn, statesIn, systemIn, listIn, judgeAnswer, judgeBytes, reachedAnswer, reachedBytes, listAnswer, listBytes, kindAnswer}
-use Rattle.codremif.specs.Packing.{Parts, refused, judgeParts, reachedParts, listParts, setParts, packed}
+use Rattle.preferences.specs.declared.answer.OneCoreAnswer.the-variants.{Refused as OneCoreRefused}
+use Rattle.preferences.specs.Answer.{oneCoreAnswer}
+use Rattle.codremif.specs.Packing.{Parts, refused, judgeParts, reachedParts, listParts, setParts, oneCoreParts, packed}
 
 -- ---- the numbers of each call
 
@@ -40,16 +43,24 @@ JudgeFits text S lent = AskedFits text S (TraceLonger text S lent)
 abbrev pub ReachedFits : (text : List ℕ) (S : ℕ) (lent : List ℕ) (number line : ℕ) → Type 0
 ReachedFits text S lent = AskedFits text S (length lent < statesIn text)
 
--- Listing the cores or the cuts: 1 to 9, 11. Each set takes two bytes.
-pub data ListFits (which : WhichList) (text lent : List ℕ) : (number line : ℕ) → Type 0 where
-  list-text : {number line : ℕ} → FitsAt text number line → ListFits which text lent number line
-  list-longer : length lent < 2 * length (listIn which text) → ListFits which text lent 11 0
+-- A call that is handed no set, and adds one number to those of the text: 1 to 9, and that number.
+pub data OwnFits (text : List ℕ) (own : ℕ) (Ground : Type 0) : (number line : ℕ) → Type 0 where
+  text-fits : {number line : ℕ} → FitsAt text number line → OwnFits text own Ground number line
+  own-fits : Ground → OwnFits text own Ground own 0
+
+-- Listing the cores or the cuts: 11. Each set takes two bytes.
+abbrev pub ListFits : (which : WhichList) (text lent : List ℕ) (number line : ℕ) → Type 0
+ListFits which text lent = OwnFits text 11 (length lent < 2 * length (listIn which text))
+
+-- Finding one core: 13, "the order is not R bytes that have each place from 0 to R - 1 exactly once".
+abbrev pub OneCoreFits : (text order : List ℕ) (number line : ℕ) → Type 0
+OneCoreFits text order = OwnFits text 13 (¬ IsOrder (rulesIn text) order)
 
 -- Giving MUST, MAY or the irrelevant rules: 1 to 9, as `FitsAt` has them.
 
 -- ---- the order
 
--- "Numbers 1 to 8 are tried line by line, in this order within a line; after the whole text come 9, 10 and 11."
+-- "Numbers 1 to 8 are tried line by line, in this order within a line; after the whole text come 9, 10 and 11." 13 "is tried after number 9".
 abbrev pub TriedBefore : (number line number′ line′ : ℕ) → Type 0
 TriedBefore number line number′ line′ =
     ((number ≤ 9) × (9 < number′)) ⊎ (((9 < number) × (number < number′)) ⊎ ((number ≤ 9) × ((number′ ≤ 9) × ComesBefore number line number′ line′)))
@@ -79,6 +90,7 @@ pub record Demand1 (text : List ℕ) : Type 0 where
   pub list : (which : WhichList) (lent : List ℕ)
       → Refusals (ListFits which text lent) ListRefused listParts lent (listAnswer which text lent) (listBytes which text lent)
   pub kind : (kind : Kind) → Refusals (FitsAt text) SetRefused setParts [] (kindAnswer kind text) []
+  pub oneCore : (order : List ℕ) → Refusals (OneCoreFits text order) OneCoreRefused oneCoreParts [] (oneCoreAnswer text order) []
 
 -- ---- the same of the exported calls
 
@@ -96,3 +108,4 @@ pub record HostDemand1 (text : List ℕ) : Type 0 where
   pub list : (which : WhichList) (lent : List ℕ)
       → HostRefusals (ListFits which text lent) lent (packed (listParts (listAnswer which text lent))) (listBytes which text lent)
   pub kind : (kind : Kind) → HostRefusals (FitsAt text) [] (packed (setParts (kindAnswer kind text))) []
+  pub oneCore : (order : List ℕ) → HostRefusals (OneCoreFits text order) [] (packed (oneCoreParts (oneCoreAnswer text order))) []

@@ -1,5 +1,5 @@
 -- The demands of the mission, as theorems about what exactly the calls answer and write. Nothing is assumed.
--- To believe them, read these files below crates/ in this order (lines without imports and blank lines, 1,583 in all). What is proved of their
+-- To believe them, read these files below crates/ in this order (lines without imports and blank lines, 1,704 in all). What is proved of their
 -- definitions stands in `Laws` and need not be read, and neither need the functions that compute (the reading of a text, the verdict, the lists):
 -- the theorems say what they give.
 --   a number as a set of rules or of letters           sets/specs/Bit                8
@@ -25,21 +25,25 @@
 --   demand 3 for any judgement                         sets/specs/Demand3           49
 --   unions of one core from each of several judgements sets/specs/Joint             20
 --   MUST, MAY and the irrelevant rules                 sets/specs/Kinds             30
+--   an order of the rules                              sets/specs/Orders            22
+--   one core by an order, and how many judgements      sets/specs/OneCore           25
 --   what a set keeps of a list                         sets/specs/Kept               7
 --   a model that is changed in rules or properties     models/specs/Changed         17
 --   which list is meant, and which kind of rules       sorting/specs/Which          13
 --   what each call answers and writes                  calls/specs/Answers         117
+--   what finding one core answers                      preferences/specs/Answer     20
 --   a list in bytes, and the first set that fits       lookup/specs/Search          29
 --   where a part of a slice lies                       slices/specs/Address         11
 --   what two lists say of a set, and the witness       lookup/specs/Suffices        54
---   an answer as one 64-bit number                     codremif/specs/Packing       63
---   demand 1 for a text                                codremif/specs/Demand1       67
+--   an answer as one 64-bit number                     codremif/specs/Packing       77
+--   demand 1 for a text                                codremif/specs/Demand1       75
 --   demand 2 for a text                                codremif/specs/Demand2       16
 --   demand 3 for a text                                codremif/specs/Demand3       89
 --   rules that nobody relies on, for a text            codremif/specs/Relied        68
 --   the quick answer, for any lists and for a text's   codremif/specs/Suffices      64
 --   several properties together, for a text            codremif/specs/Properties    51
 --   the reached states of a set, for a text            codremif/specs/Reached       21
+--   one core by an order, for a text                   codremif/specs/OneCore       32
 --   the starred examples                               codremif/specs/Examples     112
 use Prim.Native.Nat.{ℕ, _^_, _<_}
 use mathlib.Core.Path.{_≡_}
@@ -58,6 +62,7 @@ use Rattle.codremif.specs.Relied.{Relied}
 use Rattle.codremif.specs.Suffices.{QuickAnswer, textByAnswers, textByHosts}
 use Rattle.codremif.specs.Properties.{SeveralProperties}
 use Rattle.codremif.specs.Reached.{EverythingReached}
+use Rattle.codremif.specs.OneCore.{InMyOrder, oneCoreByAnswers, oneCoreByHosts}
 use Rattle.codremif.specs.Laws.Written.{written-system}
 use Rattle.codremif.specs.Laws.Demand1.{calls-meet-demand1, hosts-meet-demand1}
 use Rattle.codremif.specs.Laws.Demand2.{judging-meets-demand2}
@@ -67,6 +72,7 @@ use Rattle.codremif.specs.Laws.Relied.{relied}
 use Rattle.codremif.specs.Laws.Suffices.{the-quick-answer}
 use Rattle.codremif.specs.Laws.Properties.{calls-together, hosts-together}
 use Rattle.codremif.specs.Laws.Reached.{everything-is-reached}
+use Rattle.codremif.specs.Laws.OneCore.{calls-in-order, hosts-in-order}
 
 -- A text that is written from a legal model means what the model means: the runs of each set of rules are the model's.
 pub meaning : (M : Described) → Legal M → (S : ℕ) → systemIn (writtenModel M) S ≡ systemOf M S
@@ -119,3 +125,12 @@ several-properties-hosts = hosts-together
 -- and how many pairs of states it tried.
 pub everything-reached : (text : List ℕ) → textOutcome text ≡ Accepted → EverythingReached text
 everything-reached = everything-is-reached
+
+-- One core, in my order of preference: for every accepted text and every order of its rules, which core the call answers, or none, and by how many
+-- judgements; and by which order it answers a given core.
+pub one-core-in-my-order : (text : List ℕ) → textOutcome text ≡ Accepted → InMyOrder textByAnswers oneCoreByAnswers text
+one-core-in-my-order = calls-in-order
+
+-- The same of the exported calls, by their 64-bit answers and their lent bytes.
+pub one-core-in-my-order-hosts : (text : List ℕ) → textOutcome text ≡ Accepted → InMyOrder textByHosts oneCoreByHosts text
+one-core-in-my-order-hosts = hosts-in-order

@@ -7,6 +7,8 @@ pub mod Demand2
 pub mod Demand3
 pub mod Relied
 pub mod Suffices
+pub mod Telling
 pub mod Properties
 pub mod Reached
+pub mod OneCore
 pub mod Examples

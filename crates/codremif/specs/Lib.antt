@@ -9,5 +9,6 @@ pub mod Relied
 pub mod Suffices
 pub mod Properties
 pub mod Reached
+pub mod OneCore
 pub mod Laws
 pub mod Demands

@@ -13,21 +13,29 @@ use Rattle.calls.specs.declared.answers.ListAnswer.{ListAnswer}
 use Rattle.calls.specs.declared.answers.ListAnswer.the-variants.{Refused as ListRefused, Count}
 use Rattle.calls.specs.declared.answers.SetAnswer.{SetAnswer}
 use Rattle.calls.specs.declared.answers.SetAnswer.the-variants.{Refused as SetRefused, Set}
+use Rattle.preferences.specs.declared.answer.OneCoreAnswer.{OneCoreAnswer}
+use Rattle.preferences.specs.declared.answer.OneCoreAnswer.the-variants.{Refused as OneCoreRefused, CoreFound, NoCore}
 
--- `amount` is the trace's length, the pairs tried, the number of sets, the set, or what two lists say; `holds` is the verdict, and that a listed core is inside.
+-- `amount` is the trace's length, the pairs tried, the number of sets, the set, or what two lists say; `holds` is the verdict, and that a listed core is
+-- inside; `judgements` is how many were made to find one core, and 0 of every other call.
 pub record Parts : Type 0 where
   pub number : ℕ
   pub line : ℕ
   pub amount : ℕ
   pub holds : Bool
+  pub judgements : ℕ
 
 -- An accepted call gives number 0 and line 0 with its answer.
+unfoldable pub counted : ℕ → Bool → ℕ → Parts
+counted amount holds judgements = record { number = 0; line = 0; amount = amount; holds = holds; judgements = judgements }
+
 unfoldable pub accepted : ℕ → Bool → Parts
-accepted amount holds = record { number = 0; line = 0; amount = amount; holds = holds }
+unfolding counted
+accepted amount holds = counted amount holds 0
 
 -- Of a refused call every part but the number and the line is 0; a verdict then reads broken.
 unfoldable pub refused : ℕ → ℕ → Parts
-refused number line = record { number = number; line = line; amount = 0; holds = false }
+refused number line = record { number = number; line = line; amount = 0; holds = false; judgements = 0 }
 
 unfoldable pub judgeParts : JudgeAnswer → Parts
 unfolding accepted refused
@@ -50,6 +58,13 @@ unfolding accepted refused
 setParts (SetRefused number line) = refused number line
 setParts (Set S) = accepted S false
 
+-- Where the full set is broken, set 0 stands for no core.
+unfoldable pub oneCoreParts : OneCoreAnswer → Parts
+unfolding counted refused
+oneCoreParts (OneCoreRefused number line) = refused number line
+oneCoreParts (CoreFound S judgements) = counted S true judgements
+oneCoreParts (NoCore judgements) = counted 0 false judgements
+
 -- 1 where a listed core is inside, 2 where a listed cut is apart, 0 for unlisted.
 unfoldable pub sufficesParts : SufficesAnswer → Parts
 unfolding accepted refused
@@ -58,9 +73,10 @@ sufficesParts (CoreInside place) = accepted 1 true
 sufficesParts (CutApart place) = accepted 2 false
 sufficesParts Unlisted = accepted 0 false
 
--- The number, plus 256 times the line, plus 65,536 times the length, pairs, count or set, plus 2^40 for a verdict that holds.
+-- The number, plus 256 times the line, plus 65,536 times the length, pairs, count or set, plus 2^40 for a verdict that holds, plus 2^41 times the
+-- judgements.
 unfoldable pub packed : Parts → ℕ
-packed p = p .number + 256 * p .line + 65536 * p .amount + cond (p .holds) (2 ^ 40) 0
+packed p = p .number + 256 * p .line + 65536 * p .amount + cond (p .holds) (2 ^ 40) 0 + 2 ^ 41 * p .judgements
 
 -- The place of the witness in the list that holds it; where it is unlisted or refused, 2^64 - 1.
 unfoldable pub witnessPlace : SufficesAnswer → ℕ
@@ -80,11 +96,13 @@ pub record InRange (p : Parts) : Type 0 where
   pub number : p .number < 256
   pub line : p .line < 256
   pub amount : p .amount < 2 ^ 24
+  pub judgements : p .judgements < 2 ^ 23
 
 -- The packed number x gives each part back, and has 64 bits.
 pub record Unpacked (p : Parts) (x : ℕ) : Type 0 where
   pub number : x % 256 ≡ p .number
   pub line : x / 256 % 256 ≡ p .line
   pub amount : x / 65536 % 2 ^ 24 ≡ p .amount
-  pub holds : x / 2 ^ 40 ≡ cond (p .holds) 1 0
+  pub holds : x / 2 ^ 40 % 2 ≡ cond (p .holds) 1 0
+  pub judgements : x / 2 ^ 41 ≡ p .judgements
   pub small : x < 2 ^ 64

@@ -4,7 +4,8 @@ ghost use Rattle.sorting.specs.declared.which.WhichList.the-variants.{Cores, Cu
 ghost use Rattle.sorting.specs.declared.kinds.Kind.the-variants.{Must, May, Irrelevant};
 ghost use Rattle.lookup.specs.Suffices.{sufficesAnswer};
 ghost use Rattle.calls.specs.Answers.{judgeAnswer, judgeBytes, reachedAnswer, reachedBytes, listAnswer, listBytes, kindAnswer};
-ghost use Rattle.codremif.specs.Packing.{judgeParts, reachedParts, listParts, setParts, sufficesParts, witnessPlace, packed, versionNumber};
+ghost use Rattle.preferences.specs.Answer.{oneCoreAnswer};
+ghost use Rattle.codremif.specs.Packing.{judgeParts, reachedParts, listParts, setParts, oneCoreParts, sufficesParts, witnessPlace, packed, versionNumber};
 use sorting::kinds::Kind;
 use sorting::which::WhichList;
 
@@ -62,6 +63,14 @@ pub extern "C" fn codremif_irr(text: &[u8]) -> u64
     crate::packing::pack_set(calls::kinds::give(text, Kind::Irrelevant))
 }
 
+// One core, by an order of the rules, dearest last; and how many judgements were made.
+#[no_mangle]
+pub extern "C" fn codremif_one_core(text: &[u8], order: &[u8]) -> u64
+    ensures { λ r. ⌜ r ≡ packed (oneCoreParts (oneCoreAnswer (now (text .entry)) (now (order .entry)))) ⌝ }
+{
+    crate::packing::pack_one_core(preferences::one_core::one_core(text, order))
+}
+
 // Whether a set suffices, by a list of cores and a list of cuts.
 #[no_mangle]
 pub extern "C" fn codremif_suffices(set: u32, cores: &[u8], cuts: &[u8]) -> u64
@@ -80,7 +89,7 @@ pub extern "C" fn codremif_witness(set: u32, cores: &[u8], cuts: &[u8]) -> u64
 // Which version of the part this is, as CODREMIF_VERSION of the header says it.
 #[no_mangle]
 pub extern "C" fn codremif_version() -> u64
-    ensures { λ r. ⌜ r ≡ versionNumber 1 4 0 ⌝ }
+    ensures { λ r. ⌜ r ≡ versionNumber 1 5 0 ⌝ }
 {
-    1004000
+    1005000
 }

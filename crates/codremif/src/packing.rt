@@ -1,16 +1,18 @@
 // An answer as the one 64-bit number that a C host gets.
 ghost use mathlib.Core.Path.{_≡_};
-ghost use Rattle.codremif.specs.Packing.{InRange, judgeParts, reachedParts, listParts, setParts, sufficesParts, witnessPlace, packed};
+ghost use Prim.Native.Nat.{_+_, _*_, _^_, _<_};
+ghost use Rattle.codremif.specs.Packing.{InRange, judgeParts, reachedParts, listParts, setParts, oneCoreParts, sufficesParts, witnessPlace, packed};
 use calls::answers::JudgeAnswer;
 use calls::answers::ListAnswer;
 use calls::answers::ReachedAnswer;
 use calls::answers::SetAnswer;
 use lookup::answer::SufficesAnswer;
+use preferences::answer::OneCoreAnswer;
 
-// The number, plus 256 times the line, plus 65,536 times the amount, plus 2^40 for a verdict that holds.
+// The number, plus 256 times the line, plus 65,536 times the amount, plus 2^40 for a verdict that holds; no judgements.
 fn pack(number: u8, line: usize, amount: usize, holds: bool) -> u64
-    requires { ⌜ InRange (record { number = number; line = line; amount = amount; holds = holds }) ⌝ }
-    ensures { λ r. ⌜ r ≡ packed (record { number = number; line = line; amount = amount; holds = holds }) ⌝ }
+    requires { ⌜ InRange (record { number = number; line = line; amount = amount; holds = holds; judgements = 0 }) ⌝ }
+    ensures { λ r. ⌜ r ≡ packed (record { number = number; line = line; amount = amount; holds = holds; judgements = 0 }) ⌝ }
 {
     let parts = number as u64 + 256 * (line as u64) + 65536 * (amount as u64);
     if holds { parts + 1099511627776 } else { parts }
@@ -54,6 +56,27 @@ pub(crate) fn pack_set(a: SetAnswer) -> u64
     match a {
         SetAnswer::Refused(number, line) => pack(number, line, 0, false),
         SetAnswer::Set(set) => pack(0, 0, set as usize, false),
+    }
+}
+
+// The judgements stand above every other part.
+fn with_judgements(parts: u64, judgements: usize) -> u64
+    requires { ⌜ (parts < 2 ^ 41) × (judgements < 2 ^ 23) ⌝ }
+    ensures { λ r. ⌜ r ≡ parts + 2 ^ 41 * judgements ⌝ }
+{
+    parts + 2199023255552 * (judgements as u64)
+}
+
+pub(crate) fn pack_one_core(a: OneCoreAnswer) -> u64
+    requires { ⌜ InRange (oneCoreParts a) ⌝ }
+    ensures { λ r. ⌜ r ≡ packed (oneCoreParts a) ⌝ }
+{
+    match a {
+        OneCoreAnswer::Refused(number, line) => pack(number, line, 0, false),
+        OneCoreAnswer::CoreFound(set, judgements) => {
+            with_judgements(pack(0, 0, set as usize, true), judgements)
+        }
+        OneCoreAnswer::NoCore(judgements) => with_judgements(pack(0, 0, 0, false), judgements),
     }
 }
 

@@ -6,6 +6,7 @@ use calls::answers::SetAnswer;
 use libc::STDOUT_FILENO;
 use lookup::answer::SufficesAnswer;
 use models::model::Outcome;
+use preferences::answer::OneCoreAnswer;
 
 fn put_number(key: &[u8], number: u64) {
     io::write_all(STDOUT_FILENO, key);
@@ -58,6 +59,17 @@ pub(crate) fn set(key: &[u8], answer: SetAnswer) {
             put_number(b" line ", line as u64);
         }
         SetAnswer::Set(set) => put_number(b"", set as u64),
+    }
+}
+
+pub(crate) fn one_core(answer: OneCoreAnswer) {
+    match answer {
+        OneCoreAnswer::Refused(number, line) => put_refusal(number, line),
+        OneCoreAnswer::CoreFound(set, judgements) => {
+            put_number(b"core=", set as u64);
+            put_number(b" judgements=", judgements as u64);
+        }
+        OneCoreAnswer::NoCore(judgements) => put_number(b"no core judgements=", judgements as u64),
     }
 }
 

@@ -20,6 +20,8 @@ pub mod Growth
 pub mod Steps
 pub mod Demand3
 pub mod Kinds
+pub mod Orders
+pub mod OneCore
 pub mod Kept
 pub mod OneList
 pub mod Renumbered

@@ -7,6 +7,8 @@ pub mod Next
 pub mod Sets
 pub mod Cores
 pub mod Lists
+pub mod Orders
+pub mod OneCore
 pub mod Kinds
 pub mod Kept
 pub mod Renumbered

@@ -17,13 +17,14 @@ pub enum Reason {
     NoSuchSet,
     TooFewBytes,
     OddList,
+    NotAnOrder,
     /// A number that this wrapper does not know: a later library may have more of them. The call is refused all the same.
     Other(u8),
 }
 
 impl Reason {
     /// The reasons that have a name, in the order of their numbers, which begin with 1.
-    pub const ALL: [Reason; 12] = [
+    pub const ALL: [Reason; 13] = [
         Reason::LineDue,
         Reason::Count,
         Reason::Name,
@@ -36,6 +37,7 @@ impl Reason {
         Reason::NoSuchSet,
         Reason::TooFewBytes,
         Reason::OddList,
+        Reason::NotAnOrder,
     ];
 
     pub fn number(self) -> u8 {
@@ -67,6 +69,9 @@ impl Reason {
             Reason::NoSuchSet => "The judged set is 2^R or more (line 0).",
             Reason::TooFewBytes => "The lent bytes are fewer than this answer's trace or list needs (line 0).",
             Reason::OddList => "A list has an odd count of bytes (line 0).",
+            Reason::NotAnOrder => {
+                "The order is not R bytes that have each place from 0 to R - 1 exactly once (line 0)."
+            }
             Reason::Other(_) => "",
         }
     }
@@ -109,6 +114,15 @@ pub enum Verdict {
 pub struct Reached {
     /// How many pairs of states were tried.
     pub pairs: usize,
+}
+
+/// What is said of the one core that an order leads to, and how many sets were judged, the full set included.
+#[derive(Clone, Copy, Debug, PartialEq, Eq)]
+pub enum OneCore {
+    /// The full set holds. The core may be set 0.
+    Found { core: u16, judgements: usize },
+    /// The full set is broken, so that there is no core.
+    NoCore { judgements: usize },
 }
 
 /// What is said of a set that is looked up in a core list and a cut list.

@@ -1,6 +1,6 @@
 //! The calls of libcodremif.a.
 
-use crate::answer::{Reached, Reason, Refused, Said, Verdict};
+use crate::answer::{OneCore, Reached, Reason, Refused, Said, Verdict};
 
 /// The declarations as a C host has them.
 mod declared {
@@ -24,6 +24,8 @@ mod declared {
         pub fn codremif_must(text: *const u8, text_len: usize) -> u64;
         pub fn codremif_may(text: *const u8, text_len: usize) -> u64;
         pub fn codremif_irr(text: *const u8, text_len: usize) -> u64;
+        pub fn codremif_one_core(text: *const u8, text_len: usize, order: *const u8, order_len: usize)
+            -> u64;
         pub fn codremif_suffices(
             set: u32,
             cores: *const u8,
@@ -47,7 +49,7 @@ pub fn judge(text: &[u8], set: u32, trace: &mut [u8]) -> Result<Verdict, Refused
     // SAFETY: both slices are memory of the length given, and a `&mut` slice overlaps nothing else.
     let packed =
         unsafe { declared::codremif_judge(text.as_ptr(), text.len(), set, trace.as_mut_ptr(), trace.len()) };
-    let accepted = unpack(packed)?;
+    let accepted = uncounted(packed)?;
     if accepted.holds {
         assert_eq!(accepted.amount, 0, "a set that holds has a trace: {packed:#x}");
         return Ok(Verdict::Holds);
@@ -115,10 +117,19 @@ pub fn irrelevant(text: &[u8]) -> Result<u16, Refused> {
     set_alone(unsafe { declared::codremif_irr(text.as_ptr(), text.len()) })
 }
 
+/// Finds one core: where the full set holds, each rule in `order` is dropped when the remaining set still holds. `order` has
+/// the place of each rule once, the dearest last; the first rule of the text has place 0. Neither slice is written to.
+pub fn one_core(text: &[u8], order: &[u8]) -> Result<OneCore, Refused> {
+    // SAFETY: both slices are memory of the length given, and it is only read.
+    one_core_in(unsafe {
+        declared::codremif_one_core(text.as_ptr(), text.len(), order.as_ptr(), order.len())
+    })
+}
+
 /// Looks `set` up in two lists, two bytes for each set: says whether a listed core is inside it or else a listed cut is
 /// apart from it. No text is read.
 pub fn suffices(set: u32, cores: &[u8], cuts: &[u8]) -> Result<Said, Refused> {
-    // SAFETY: both slices are memory of the length given, and it is only read.
+    // SAFETY: as in `one_core`.
     said(unsafe { declared::codremif_suffices(set, cores.as_ptr(), cores.len(), cuts.as_ptr(), cuts.len()) })
 }
 
@@ -158,29 +169,46 @@ pub fn version() -> u64 {
 struct Accepted {
     amount: usize,
     holds: bool,
+    judgements: usize,
 }
 
 /// Takes apart: the number, plus 256 times the line, plus 65,536 times the length, count, set or pairs, plus 2^40 for a
-/// verdict that holds. It panics where a part is not 0 that docs/FORMAT.md says is 0, so that no test can miss it; a number
-/// that it does not know is a refusal like the others.
+/// verdict that holds, plus 2^41 times the judgements. It panics where a part is not 0 that docs/FORMAT.md says is 0, so that
+/// no test can miss it; a number that it does not know is a refusal like the others.
 fn unpack(packed: u64) -> Result<Accepted, Refused> {
     let number = (packed % 256) as u8;
     let line = (packed / 256 % 256) as u8;
-    let amount = (packed / 65_536 % (1 << 24)) as usize;
-    let above = packed >> 40;
-    assert!(above <= 1, "no answer of docs/FORMAT.md: {packed:#x}");
-    let holds = above == 1;
     if number == 0 {
         assert_eq!(line, 0, "accepted, and yet a line: {packed:#x}");
-        return Ok(Accepted { amount, holds });
+        let amount = (packed / 65_536 % (1 << 24)) as usize;
+        let holds = packed >> 40 & 1 == 1;
+        return Ok(Accepted { amount, holds, judgements: (packed >> 41) as usize });
     }
-    assert!(amount == 0 && !holds, "refused, and yet an answer: {packed:#x}");
+    assert_eq!(packed / 65_536, 0, "refused, and yet an answer: {packed:#x}");
     Err(Refused::new(Reason::from_number(number), line))
+}
+
+/// For the calls that count no judgements.
+fn uncounted(packed: u64) -> Result<Accepted, Refused> {
+    let accepted = unpack(packed)?;
+    assert_eq!(accepted.judgements, 0, "no answer of docs/FORMAT.md: {packed:#x}");
+    Ok(accepted)
+}
+
+/// For the call that finds one core: where the full set is broken there is none, and the set is 0.
+fn one_core_in(packed: u64) -> Result<OneCore, Refused> {
+    let Accepted { amount, holds, judgements } = unpack(packed)?;
+    let core = set_of(amount, packed);
+    if holds {
+        return Ok(OneCore::Found { core, judgements });
+    }
+    assert_eq!(core, 0, "no core, and yet a set: {packed:#x}");
+    Ok(OneCore::NoCore { judgements })
 }
 
 /// For the call that looks a set up.
 fn said(packed: u64) -> Result<Said, Refused> {
-    let accepted = unpack(packed)?;
+    let accepted = uncounted(packed)?;
     Ok(said_in(&accepted).unwrap_or_else(|| panic!("no answer of docs/FORMAT.md: {packed:#x}")))
 }
 
@@ -196,15 +224,18 @@ fn said_in(accepted: &Accepted) -> Option<Said> {
 
 /// For the calls that give no verdict.
 fn amount_alone(packed: u64) -> Result<usize, Refused> {
-    let accepted = unpack(packed)?;
+    let accepted = uncounted(packed)?;
     assert!(!accepted.holds, "a verdict where none is due: {packed:#x}");
     Ok(accepted.amount)
 }
 
 /// For the calls that give a set.
 fn set_alone(packed: u64) -> Result<u16, Refused> {
-    let set = amount_alone(packed)?;
-    Ok(u16::try_from(set).unwrap_or_else(|_| panic!("no set of 16 rules: {packed:#x}")))
+    Ok(set_of(amount_alone(packed)?, packed))
+}
+
+fn set_of(amount: usize, packed: u64) -> u16 {
+    u16::try_from(amount).unwrap_or_else(|_| panic!("no set of 16 rules: {packed:#x}"))
 }
 
 #[cfg(test)]
@@ -216,10 +247,10 @@ mod tests {
         for number in 1..=255_u8 {
             let refused = unpack(u64::from(number) + 256 * 7).expect_err("a refusal");
             assert_eq!((refused.reason.number(), refused.line), (number, 7));
-            assert_eq!(matches!(refused.reason, Reason::Other(_)), number > 12);
+            assert_eq!(matches!(refused.reason, Reason::Other(_)), number > 13);
             assert!(refused.to_string().starts_with(&format!("refused by number {number}, line 7: ")));
         }
-        assert_eq!(unpack(5 * 65_536), Ok(Accepted { amount: 5, holds: false }));
+        assert_eq!(unpack(5 * 65_536), Ok(Accepted { amount: 5, holds: false, judgements: 0 }));
     }
 
     #[test]
@@ -229,7 +260,37 @@ mod tests {
         assert_eq!(said(131_072), Ok(Said::CutApart));
         assert_eq!(said(12), Err(Refused::new(Reason::OddList, 0)));
         for (amount, holds) in [(0, true), (1, false), (2, true), (3, false), (3, true)] {
-            assert_eq!(said_in(&Accepted { amount, holds }), None);
+            assert_eq!(said_in(&Accepted { amount, holds, judgements: 0 }), None);
         }
+    }
+
+    #[test]
+    fn what_is_said_of_one_core() {
+        let packed =
+            |set: u64, holds: u64, judgements: u64| 65_536 * set + (holds << 40) + (judgements << 41);
+        assert_eq!(one_core_in(packed(0, 0, 1)), Ok(OneCore::NoCore { judgements: 1 }));
+        assert_eq!(one_core_in(packed(0, 1, 2)), Ok(OneCore::Found { core: 0, judgements: 2 }));
+        let largest = OneCore::Found { core: 65_535, judgements: 17 };
+        assert_eq!(one_core_in(packed(65_535, 1, 17)), Ok(largest));
+        assert_eq!(one_core_in(13), Err(Refused::new(Reason::NotAnOrder, 0)));
+        assert_eq!(one_core_in(9 + 256 * 8), Err(Refused::new(Reason::BytesFollow, 8)));
+    }
+
+    #[test]
+    #[should_panic(expected = "no core, and yet a set")]
+    fn a_set_where_there_is_no_core() {
+        let _ = one_core_in(65_536 * 7 + (1 << 41));
+    }
+
+    #[test]
+    #[should_panic(expected = "refused, and yet an answer")]
+    fn judgements_of_a_refused_call() {
+        let _ = one_core_in(13 + (1 << 41));
+    }
+
+    #[test]
+    #[should_panic(expected = "no answer of docs/FORMAT.md")]
+    fn judgements_of_a_call_that_counts_none() {
+        let _ = set_alone(65_536 * 7 + (1 << 41));
     }
 }

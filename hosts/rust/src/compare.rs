@@ -3,13 +3,30 @@
 use std::collections::BTreeMap;
 use std::fmt::Debug;
 
-use crate::answer::{Reached, Reason, Refused, Said, Verdict};
+use crate::answer::{OneCore, Reached, Reason, Refused, Said, Verdict};
 use crate::calls;
-use crate::handed::Handed;
+use crate::handed::{Guarded, Handed};
 use crate::lent::{Fill, Lent};
 use crate::plain::answers::{self, Answers};
 use crate::plain::lookup;
+use crate::plain::one_core::one_core;
 use crate::plain::system::TransitionSystem;
+use crate::plain::text;
+use crate::random::written::Written;
+
+/// A text with what the plain search reads of it.
+pub struct Asked {
+    pub text: Vec<u8>,
+    pub system: TransitionSystem,
+}
+
+impl Asked {
+    pub fn of(written: &Written) -> Asked {
+        let text = written.text();
+        let system = TransitionSystem::of(&text::read(&text).expect("an accepted model"));
+        Asked { text, system }
+    }
+}
 
 /// How often the library was asked, and how often it gave each number (number 0: accepted).
 #[derive(Clone, Debug, Default)]
@@ -118,6 +135,25 @@ impl Tally {
         self.count(&answered);
     }
 
+    /// One core by an order: both sides must say the same, and no byte of the text, of the order or of their guards may
+    /// change. The text is given as the plain search reads it, as in `reached`.
+    pub fn one_core(
+        &mut self,
+        text: &[u8],
+        plain: Result<&TransitionSystem, Refused>,
+        order: &Guarded,
+        fill: Fill,
+    ) -> Result<OneCore, Refused> {
+        let guarded = Guarded::new(text, fill);
+        let answered = calls::one_core(guarded.bytes(), order.bytes());
+        let about = || format!("order {}, {fill:?}; {}", show_list(order.bytes()), show(text));
+        let expected = plain.and_then(|system| one_core(system, order.bytes()));
+        assert_eq!(answered, expected, "library left, plain search right; {}", about());
+        assert!(guarded.is_untouched() && order.is_untouched(), "a byte has changed; {}", about());
+        self.count(&answered);
+        answered
+    }
+
     /// A set that is looked up: both sides must say the same of it and give the same two bytes of the same list as the
     /// witness, and no byte of the lists or their guards may change.
     pub fn look_up(&mut self, set: u32, lists: &Handed) -> Result<Said, Refused> {
@@ -141,12 +177,16 @@ impl Tally {
     }
 
     /// A text that the plain reader refuses: all calls must refuse it alike. Those that are given a set are asked with set 0,
-    /// with a set too large for any model and with no byte lent, because the text comes before 10 and 11.
+    /// with a set too large for any model and with no byte lent, because the text comes before 10 and 11; and the one that is
+    /// given an order with bytes that are one, and that are none for any model, because it comes before 13, too.
     pub fn refused_text(&mut self, text: &[u8], expected: Refused, fill: Fill) {
         for (set, length) in [(0, 128), (0, 0), (u32::MAX, 0), (1 << 16, 16)] {
             let library = |lent: &mut [u8]| calls::judge(text, set, lent);
             let _ = self.ask(text, length, fill, library, |_| Err(expected));
             let _ = self.reached(text, Err(expected), set, length, fill);
+        }
+        for order in [&[][..], &[0], &[2, 0, 1], &[0, 0, 255]] {
+            let _ = self.one_core(text, Err(expected), &Guarded::new(order, fill), fill);
         }
         for length in [0, 64] {
             let _ = self.ask(text, length, fill, |lent| calls::cores(text, lent), |_| Err(expected));
@@ -170,7 +210,7 @@ pub fn place_in(list: &[u8], witness: &[u8]) -> Option<usize> {
     inside
 }
 
-/// The bytes of a list, no more than some of the first.
+/// The bytes of a list or an order, no more than some of the first.
 fn show_list(list: &[u8]) -> String {
     format!("{} bytes, {:?}", list.len(), &list[..list.len().min(100)])
 }

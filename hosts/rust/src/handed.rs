@@ -1,16 +1,43 @@
-//! Two lists to be handed over to the calls that look a set up: with guard bytes around them, and in the same memory where
-//! a test wants it. They are only read, so every byte must stay as it is.
+//! What is handed over to be read: with guard bytes around it. It is not lent, so every byte must stay as it is.
 
 use std::ops::Range;
 
 use crate::lent::{Fill, GUARD};
 
+/// Bytes in a memory with guards: all of the memory, or a part of it where a test wants to choose what stands beside it.
+#[derive(Debug)]
+pub struct Guarded {
+    memory: Vec<u8>,
+    as_filled: Vec<u8>,
+    part: Range<usize>,
+}
+
+impl Guarded {
+    pub fn new(bytes: &[u8], fill: Fill) -> Guarded {
+        Guarded::within(bytes, 0..bytes.len(), fill)
+    }
+
+    /// A part of the bytes. The guards stand around the whole.
+    pub fn within(bytes: &[u8], part: Range<usize>, fill: Fill) -> Guarded {
+        let memory = [&guard(fill), bytes, &guard(fill)].concat();
+        Guarded { as_filled: memory.clone(), memory, part: part.start + GUARD..part.end + GUARD }
+    }
+
+    pub fn bytes(&self) -> &[u8] {
+        &self.memory[self.part.clone()]
+    }
+
+    /// Whether every byte, guards included, is as it was filled.
+    pub fn is_untouched(&self) -> bool {
+        self.memory == self.as_filled
+    }
+}
+
 /// A core list and a cut list, in one memory with guards. Guards of zeros are the set 0, which is inside every set and apart
 /// from every set: a call that reads on past a list finds it.
 #[derive(Debug)]
 pub struct Handed {
-    memory: Vec<u8>,
-    as_filled: Vec<u8>,
+    both: Guarded,
     cores: Range<usize>,
     cuts: Range<usize>,
 }
@@ -24,22 +51,20 @@ impl Handed {
 
     /// Two parts of the same bytes, which may overlap or be the same. The guards stand around the whole.
     pub fn within(bytes: &[u8], cores: Range<usize>, cuts: Range<usize>, fill: Fill) -> Handed {
-        let memory = [&guard(fill), bytes, &guard(fill)].concat();
-        let shifted = |part: Range<usize>| part.start + GUARD..part.end + GUARD;
-        Handed { as_filled: memory.clone(), memory, cores: shifted(cores), cuts: shifted(cuts) }
+        Handed { both: Guarded::new(bytes, fill), cores, cuts }
     }
 
     pub fn cores(&self) -> &[u8] {
-        &self.memory[self.cores.clone()]
+        &self.both.bytes()[self.cores.clone()]
     }
 
     pub fn cuts(&self) -> &[u8] {
-        &self.memory[self.cuts.clone()]
+        &self.both.bytes()[self.cuts.clone()]
     }
 
     /// Whether every byte, guards included, is as it was filled.
     pub fn is_untouched(&self) -> bool {
-        self.memory == self.as_filled
+        self.both.is_untouched()
     }
 }
 

@@ -8,6 +8,7 @@ use std::collections::BTreeMap;
 use codremif_host::answer::{Reason, Refused};
 use codremif_host::calls;
 use codremif_host::compare::{show, Tally};
+use codremif_host::handed::Guarded;
 use codremif_host::lent::{Fill, Lent};
 use codremif_host::plain::answers::Answers;
 use codremif_host::plain::text::{self, Model};
@@ -26,7 +27,7 @@ const FOUR: &[u8] =
 #[derive(Debug, Default)]
 struct Seen {
     texts: usize,
-    by_number: [usize; 12],
+    by_number: [usize; 14],
     /// Number 9, by its line.
     bytes_follow: [usize; 26],
     faults: BTreeMap<Fault, usize>,
@@ -221,8 +222,8 @@ fn compare_text(seen: &mut Seen, text: &[u8], fills: &[Fill]) {
     }
 }
 
-/// A text still accepted after its damage. A set too large tells at once that the library accepts it too; where the
-/// model is small, everything else is compared as well.
+/// A text still accepted after its damage. A set too large, or bytes that are no order, tell at once that the library accepts
+/// it too; where the model is small, everything else is compared as well.
 fn compare_accepted(seen: &mut Seen, text: &[u8], model: &Model, fills: &[Fill]) {
     let too_large = Refused::new(Reason::NoSuchSet, 0);
     for fill in fills {
@@ -233,6 +234,11 @@ fn compare_accepted(seen: &mut Seen, text: &[u8], model: &Model, fills: &[Fill])
         assert!(lent.is_untouched(), "{}", show(text));
     }
     seen.note(too_large);
+    let not_an_order = Refused::new(Reason::NotAnOrder, 0);
+    for order in [&[][..], &[255], &[0; 17]] {
+        assert_eq!(calls::one_core(text, order), Err(not_an_order), "{}", show(text));
+    }
+    seen.note(not_an_order);
     if model.bits <= 4 && model.rules.len() <= 6 {
         compare_in_full(seen, text, fills);
     }
@@ -247,6 +253,7 @@ fn compare_in_full(seen: &mut Seen, text: &[u8], fills: &[Fill]) {
         let _ = seen.tally.judge(text, &plain, 0, 128, *fill);
         let _ = seen.tally.judge(text, &plain, u32::from(plain.system.full_set()), 16, *fill);
         compare_reached(seen, text, &plain, *fill);
+        compare_one_core(seen, text, &plain, *fill);
         let _ = seen.tally.cores(text, &plain, needed, *fill);
         let _ = seen.tally.cuts(text, &plain, needed, *fill);
         for list in [seen.tally.cores(text, &plain, 1, *fill), seen.tally.cuts(text, &plain, 1, *fill)] {
@@ -264,5 +271,15 @@ fn compare_reached(seen: &mut Seen, text: &[u8], plain: &Answers, fill: Fill) {
         assert!(answer.is_ok(), "{}", show(text));
         let too_few = seen.tally.reached(text, Ok(system), set, system.states - 1, fill);
         assert_eq!(too_few, Err(Refused::new(Reason::TooFewBytes, 0)), "{}", show(text));
+    }
+}
+
+/// The first rule dropped first, the last rule dropped first, and a byte too many.
+fn compare_one_core(seen: &mut Seen, text: &[u8], plain: &Answers, fill: Fill) {
+    let places = 0..plain.system.rules as u8;
+    let (first, last): (Vec<u8>, Vec<u8>) = (places.clone().collect(), places.clone().rev().collect());
+    let too_many: Vec<u8> = places.chain([0]).collect();
+    for order in [first, last, too_many] {
+        let _ = seen.tally.one_core(text, Ok(&plain.system), &Guarded::new(&order, fill), fill);
     }
 }

@@ -1,14 +1,15 @@
-//! Every example at the edges that the request lists, and examples of several properties and of reached states worked out by
-//! hand, asked of the library and of the plain search.
+//! Every example at the edges that the request lists, and examples of several properties, of reached states and of one core
+//! worked out by hand, asked of the library and of the plain search.
 
 #![deny(warnings)]
 
-use codremif_host::answer::{Reached, Reason, Refused, Said, Verdict};
+use codremif_host::answer::{OneCore, Reached, Reason, Refused, Said, Verdict};
 use codremif_host::compare::{place_in, show, Tally};
-use codremif_host::handed::Handed;
+use codremif_host::handed::{Guarded, Handed};
 use codremif_host::lent::Fill;
 use codremif_host::plain::answers::{self, Answers};
 use codremif_host::plain::lookup;
+use codremif_host::plain::one_core::{one_core, order_for};
 use codremif_host::plain::trace::trace;
 use codremif_host::{calls, plain};
 
@@ -54,6 +55,33 @@ fn expect_reached(text: &str, expected: &[(u32, &[u8], usize)]) {
             assert!(lent[marks.len()..].iter().all(|byte| *byte == 99), "{side}, set {set}; {}", show(text));
         }
     }
+}
+
+/// What an order leads to, by the plain search and by the library.
+fn expect_one_core(text: &str, order: &[u8], expected: Result<OneCore, Refused>) {
+    let text = text.as_bytes();
+    let system = Answers::of(text).expect("an accepted model").system;
+    let about = format!("order {order:?}; {}", show(text));
+    assert_eq!(one_core(&system, order), expected, "plain search; {about}");
+    for fill in Fill::ALL {
+        let guarded = Guarded::new(order, fill);
+        let answer = Tally::default().one_core(text, Ok(&system), &guarded, fill);
+        assert_eq!(answer, expected, "library; {about}");
+    }
+}
+
+/// Found after one judgement for the full set and one for each rule.
+fn expect_found(text: &str, order: &[u8], core: u16) {
+    expect_one_core(text, order, Ok(OneCore::Found { core, judgements: order.len() + 1 }));
+}
+
+/// After one judgement, whatever the order is.
+fn expect_no_core(text: &str, order: &[u8]) {
+    expect_one_core(text, order, Ok(OneCore::NoCore { judgements: 1 }));
+}
+
+fn expect_not_an_order(text: &str, bytes: &[u8]) {
+    expect_one_core(text, bytes, Err(Refused::new(Reason::NotAnOrder, 0)));
 }
 
 /// MUST, MAY and the irrelevant rules, each a set.
@@ -249,6 +277,101 @@ fn reached_without_a_pair() {
     let seven = "vars=7\nrules=1\ninit=!|a|b|c|d|e|fg\nprop=1\nrule=r:=Gg\n";
     let half: Vec<u8> = (0..128).map(|state| u8::from(state < 64)).collect();
     expect_reached(seven, &[(0, &[1; 128], 128), (1, &half, 64 * 128)]);
+}
+
+/// Tremor's cores are `vote` and `ra` with `rb`: `vote` is found unless it is the first in the order.
+#[test]
+fn tremor_in_every_order() {
+    for (order, core) in
+        [([0, 1, 2], 4), ([1, 0, 2], 4), ([0, 2, 1], 4), ([1, 2, 0], 4), ([2, 0, 1], 3), ([2, 1, 0], 3)]
+    {
+        expect_found(TREMOR, &order, core);
+    }
+    assert_eq!((order_for(4, 3), order_for(3, 3)), (vec![0, 1, 2], vec![2, 0, 1]));
+    let only_ra = "vars=3\nrules=1\ninit=!c\nprop=>c&ab\nrule=ra:>CA\n";
+    expect_no_core(only_ra, &[0]);
+}
+
+/// Set 0 is a core where no rule is needed, and stands for no core where the full set is broken.
+#[test]
+fn set_0_found_and_no_core() {
+    expect_found(&one_bit("1", "1", "1"), &[0], 0);
+    expect_found(&one_bit("0", "0", "1"), &[0], 0);
+    expect_no_core(&one_bit("1", "a", "1"), &[0]);
+    expect_no_core(&one_bit("!a", "!a", "1"), &[0]);
+    let every_rule: Vec<u8> = (0..16).collect();
+    let sixteen = |rule: &str| {
+        let rules: String = (0..16).map(|place| format!("rule=r{place}:{rule}\n")).collect();
+        format!("vars=1\nrules=16\ninit=!a\nprop=!a\n{rules}")
+    };
+    expect_no_core(&sixteen("1"), &every_rule);
+    expect_found(&sixteen("!A"), &every_rule, 1 << 15);
+    let last_first: Vec<u8> = (0..16).rev().collect();
+    expect_found(&sixteen("!A"), &last_first, 1);
+}
+
+/// No rule can be dropped, one of two alike, and the rules that nobody relies on.
+#[test]
+fn rules_kept_and_dropped() {
+    expect_found(&one_bit("!a", "!a", "=Aa"), &[0], 1);
+    expect_found(LATCH, &[0, 1], 3);
+    expect_found(LATCH, &[1, 0], 3);
+    let twice = "vars=1\nrules=2\ninit=!a\nprop=!a\nrule=r:=Aa\nrule=s:=Aa\n";
+    expect_found(twice, &[0, 1], 2);
+    expect_found(twice, &[1, 0], 1);
+    let battery = "vars=4\nrules=5\ninit=!c\nprop=>c&ab\nrule=motion:>CA\nrule=quiet:>!a!C\nrule=power:>CB\n\
+                   rule=double:>C&aA\nrule=lamp:=DC\n";
+    expect_found(battery, &[0, 1, 2, 3, 4], 12);
+    expect_found(battery, &[4, 3, 2, 1, 0], 5);
+    expect_found(battery, &[2, 3, 0, 4, 1], 5);
+    expect_found(battery, &[2, 0, 3, 4, 1], 12);
+    // For each of two properties alone one rule would do.
+    expect_found(&two_bits(&["!a", "!b"], &["=Aa", "=Bb"]), &[0, 1], 3);
+    expect_found(&two_bits(&["!a", "!b"], &["!A", "!B", "!|AB"]), &[2, 1, 0], 3);
+}
+
+/// Number 13 for too few places, too many, one twice, R and more, where the full set holds and where it is broken.
+#[test]
+fn bytes_that_are_no_order() {
+    let tremor_broken = tremor_with(3, "prop=!c");
+    for text in [TREMOR, &tremor_broken] {
+        for bytes in [&[][..], &[0], &[0, 1], &[2, 1], &[0, 1, 2, 0], &[0, 1, 2, 3], &[0, 1, 2, 255]] {
+            expect_not_an_order(text, bytes);
+        }
+        for bytes in [[0, 0, 2], [0, 1, 1], [2, 0, 2], [0, 0, 0], [1, 1, 1], [2, 2, 2]] {
+            expect_not_an_order(text, &bytes);
+        }
+        for place in [3, 4, 16, 17, 32, 64, 128, 129, 255] {
+            for bytes in [[place, 1, 2], [0, place, 2], [0, 1, place]] {
+                expect_not_an_order(text, &bytes);
+            }
+        }
+    }
+    expect_no_core(&tremor_broken, &[0, 1, 2]);
+    for bytes in [&[][..], &[1], &[255], &[0, 0], &[0, 1], &[1, 0]] {
+        expect_not_an_order(&one_bit("1", "1", "1"), bytes);
+    }
+    let longer: Vec<u8> = [0, 1, 2].into_iter().chain([0; 65_536]).collect();
+    for length in [17, 256, 259, 65_536, 65_539] {
+        expect_not_an_order(TREMOR, &longer[..length]);
+    }
+}
+
+/// The numbers of the text come first, 9 the last of them.
+#[test]
+fn a_refused_text_before_an_order() {
+    let follow = TREMOR.to_string() + "\n";
+    for order in [&[0, 1, 2][..], &[], &[0, 1], &[0, 0, 0], &[0, 1, 255], &[0, 1, 2, 3]] {
+        let answer = |text: &str| calls::one_core(text.as_bytes(), order);
+        assert_eq!(answer(&follow), Err(Refused::new(Reason::BytesFollow, 8)), "{order:?}");
+        assert_eq!(answer(""), Err(Refused::new(Reason::LineDue, 1)), "{order:?}");
+        assert_eq!(answer(&tremor_with(1, "rules=4")), Err(Refused::new(Reason::LineDue, 8)), "{order:?}");
+        assert_eq!(
+            answer(&tremor_with(6, "rule=rb:1")),
+            Err(Refused::new(Reason::NameTwice, 7)),
+            "{order:?}"
+        );
+    }
 }
 
 /// Two bits that start as 0, with these properties and rules.

@@ -4,7 +4,7 @@
 
 #![deny(warnings)]
 
-use codremif_host::answer::{Reached, Verdict};
+use codremif_host::answer::{OneCore, Reached, Verdict};
 use codremif_host::calls;
 use codremif_host::compare::show;
 use codremif_host::plain::answers::Answers;
@@ -13,6 +13,7 @@ use codremif_host::plain::trace::trace;
 use codremif_host::random::generator::seed_for;
 use codremif_host::random::lists::random_set;
 use codremif_host::random::models::{model, model_of, Kind};
+use codremif_host::random::orders::order;
 use codremif_host::random::properties::{with_several_properties, PropertyCounts};
 use codremif_host::random::written::{join, Written};
 use codremif_host::random::Random;
@@ -237,10 +238,11 @@ struct Said {
     must: u16,
     may: u16,
     irrelevant: u16,
+    one_core: OneCore,
 }
 
 impl Said {
-    fn of(text: &[u8], sets: &[u16]) -> Said {
+    fn of(text: &[u8], sets: &[u16], order: &[u8]) -> Said {
         let library = Library::of(text);
         Said {
             traces: sets.iter().map(|set| library.trace(*set)).collect(),
@@ -249,6 +251,7 @@ impl Said {
             must: calls::must(text).expect("an accepted model"),
             may: calls::may(text).expect("an accepted model"),
             irrelevant: calls::irrelevant(text).expect("an accepted model"),
+            one_core: calls::one_core(text, order).expect("an accepted model"),
         }
     }
 }
@@ -262,7 +265,8 @@ fn the_same_in_other_words() {
     while conjunctions + orders + repeats < 12_000 {
         let written = small_model(&mut random);
         let sets = [0, full_set(&written), random_set(&mut random) & full_set(&written)];
-        let said = Said::of(&written.text(), &sets);
+        let order = order(&mut random, written.rules.len());
+        let said = Said::of(&written.text(), &sets, &order);
         for (count, properties) in [
             (&mut conjunctions, vec![join('&', &written.properties)]),
             (&mut orders, written.properties.iter().rev().cloned().collect()),
@@ -271,7 +275,8 @@ fn the_same_in_other_words() {
             let is_model = properties.len() <= 4 && properties.iter().all(|property| property.len() <= 64);
             if is_model && properties != written.properties {
                 let other = written.with_properties(properties).text();
-                assert_eq!(Said::of(&other, &sets), said, "{}; {}", show(&other), show(&written.text()));
+                let of_other = Said::of(&other, &sets, &order);
+                assert_eq!(of_other, said, "{}; {}", show(&other), show(&written.text()));
                 *count += 1;
             }
         }

@@ -9,6 +9,8 @@ use native.Mathlib.Omega.{arith}
 use native.Mathlib.Decide.{decLt}
 use lib.ListN.{length}
 use Rattle.sets.specs.Lists.{bytesOf}
+use Rattle.sets.specs.Orders.{IsOrder}
+use Rattle.sets.specs.Laws.Orders.{order-or-not}
 use Rattle.models.specs.declared.model.Outcome.{Outcome}
 use Rattle.models.specs.declared.model.Outcome.the-variants.{Accepted, Refused}
 use Rattle.models.specs.Refusals.{FitsAt, line-missing, count-wrong, name-improper, name-taken, length-wrong, byte-other, letter-beyond, letter-capital, not-one, bytes-follow, First}
@@ -22,10 +24,13 @@ use Rattle.calls.specs.declared.answers.ReachedAnswer.the-variants.{Refused as 
 use Rattle.calls.specs.declared.answers.ListAnswer.the-variants.{Refused as ListRefused, Count}
 use Rattle.calls.specs.declared.answers.SetAnswer.the-variants.{Refused as SetRefused, Set}
 use Rattle.calls.specs.Answers.{rulesIn, statesIn, systemIn, traceIn, marksIn, pairsIn, listIn, kindIn, textOutcome, askedOutcome, judgeOutcome, reachedOutcome, listOutcome, given, after, judgeAnswer, judgeBytes, reachedAnswer, reachedBytes, listAnswer, listBytes, kindAnswer}
-use Rattle.codremif.specs.Packing.{Parts, refused, judgeParts, reachedParts, listParts, setParts, packed}
-use Rattle.codremif.specs.Demand1.{AskedFits, asked-text, set-beyond, bytes-fewer, TraceLonger, JudgeFits, ReachedFits, ListFits, list-text, list-longer, FirstOf, Refusals, Demand1, HostRefusals, HostDemand1}
-use Rattle.calls.specs.Laws.Answers.{AskedNumbers, ListNumbers, asked-numbers, list-numbers, given-refused, given-accepted, refusal-given, not-refused, length-marks, pairs-told}
-use Rattle.codremif.specs.Laws.Host.{HostReads, judge-reads, reached-reads, list-reads, kind-reads}
+use Rattle.preferences.specs.declared.answer.OneCoreAnswer.the-variants.{Refused as OneCoreRefused}
+use Rattle.preferences.specs.Answer.{oneCoreIn, oneCoreOutcome, oneCoreAnswer}
+use Rattle.preferences.specs.Laws.Answer.{OneCoreNumbers, one-core-numbers, found-told}
+use Rattle.codremif.specs.Packing.{Parts, refused, judgeParts, reachedParts, listParts, setParts, oneCoreParts, packed}
+use Rattle.codremif.specs.Demand1.{AskedFits, asked-text, set-beyond, bytes-fewer, TraceLonger, JudgeFits, ReachedFits, OwnFits, text-fits, own-fits, ListFits, OneCoreFits, FirstOf, Refusals, Demand1, HostRefusals, HostDemand1}
+use Rattle.calls.specs.Laws.Answers.{AskedNumbers, asked-numbers, list-numbers, given-refused, given-accepted, refusal-given, not-refused, length-marks, pairs-told}
+use Rattle.codremif.specs.Laws.Host.{HostReads, judge-reads, reached-reads, list-reads, kind-reads, one-core-reads}
 
 -- ---- the numbers of a text are 1 to 9
 
@@ -180,44 +185,56 @@ module _ (text : List ℕ) (S : ℕ) (lent : List ℕ) where
       asked-right text S (length lent < statesIn text) (marksIn text S) lent
       (λ l. omega (arith, l, length-marks text S), λ l. omega (arith, l, length-marks text S))
 
--- ---- listing sets
+-- ---- a call that adds one number to those of the text
 
-module _ (which : WhichList) (text lent : List ℕ) where
-  list-zero : (number line : ℕ) → ListFits which text lent number line → 9 < number → line ≡ 0
-  list-zero number line (list-text f) h = absurd (omega (arith, text-most f))
-  list-zero number line (list-longer l) h = refl
+module _ (text : List ℕ) (own : ℕ) (Ground : Type 0) where
+  own-zero : (number line : ℕ) → OwnFits text own Ground number line → 9 < number → line ≡ 0
+  own-zero number line (text-fits f) h = absurd (omega (arith, text-most f))
+  own-zero number line (own-fits g) h = refl
 
-  list-out : (number line : ℕ) → number ≤ 9 → ListFits which text lent number line → FitsAt text number line
-  list-out number line h (list-text f) = f
-  list-out number line h (list-longer l) = absurd (omega arith)
+  module _ (above : 9 < own) (ground : Dec Ground) {o : Outcome} (byText : (number line : ℕ) → textOutcome text ≡ Refused number line → o ≡ Refused number line)
+      (byOwn : textOutcome text ≡ Accepted → Ground → o ≡ Refused own 0) (byNone : textOutcome text ≡ Accepted → ¬ Ground → o ≡ Accepted) where
+    own-out : (number line : ℕ) → number ≤ 9 → OwnFits text own Ground number line → FitsAt text number line
+    own-out number line h (text-fits f) = f
+    own-out number line h (own-fits g) = absurd (omega arith)
 
-  numbers-listed : ListNumbers text (listIn which text) lent (listOutcome which text lent)
-  numbers-listed = list-numbers which text lent
+    module _ (accepted : textOutcome text ≡ Accepted) (no-text : (number line : ℕ) → ¬ FitsAt text number line) where
+      own-least : (n l : ℕ) → OwnFits text own Ground n l → own ≤ n
+      own-least n l (text-fits f) = absurd (no-text n l f)
+      own-least n l (own-fits g) = omega arith
 
-  listed-rightly : {o : Outcome} → listOutcome which text lent ≡ o → Right (ListFits which text lent) o → Right (ListFits which text lent) (listOutcome which text lent)
-  listed-rightly e r = subst (Right (ListFits which text lent)) (sym e) r
+      own-none : ¬ Ground → (n l : ℕ) → ¬ OwnFits text own Ground n l
+      own-none not n l (text-fits f) = no-text n l f
+      own-none not n l (own-fits g) = not g
 
-  module _ (accepted : textOutcome text ≡ Accepted) (no-text : (number line : ℕ) → ¬ FitsAt text number line) where
-    list-eleven : (n l : ℕ) → ListFits which text lent n l → 11 ≤ n
-    list-eleven n l (list-text f) = absurd (no-text n l f)
-    list-eleven n l (list-longer h) = omega arith
+      by-ground : Dec Ground → Right (OwnFits text own Ground) o
+      by-ground (yes g) = subst (Right _) (sym (byOwn accepted g)) (fits-first (least-first (OwnFits text own Ground) above (own-fits g) own-least))
+      by-ground (no not) = subst (Right _) (sym (byNone accepted not)) (fits-none (own-none not))
 
-    list-none : 2 * length (listIn which text) ≤ length lent → (n l : ℕ) → ¬ ListFits which text lent n l
-    list-none h n l (list-text f) = no-text n l f
-    list-none h n l (list-longer k) = omega arith
+    own-right : Right (OwnFits text own Ground) o
+    unfolding textOutcome
+    own-right = go refl (right-outcome text)
+      where
+        go : {t : Outcome} → textOutcome text ≡ t → RightOutcome text t → Right (OwnFits text own Ground) o
+        go e (none-fits n) = by-ground e n ground
+        go e (first-fits f) = subst (Right _) (sym (byText _ _ e)) (fits-first (text-first (OwnFits text own Ground) (λ n l g. text-fits g) own-out f))
 
-    list-by-length : Dec (length lent < 2 * length (listIn which text)) → Right (ListFits which text lent) (listOutcome which text lent)
-    list-by-length (yes h) =
-        listed-rightly (numbers-listed .byLength accepted h) (fits-first (least-first (ListFits which text lent) (omega arith) (list-longer h) list-eleven))
-    list-by-length (no b) = listed-rightly (numbers-listed .byNone accepted (omega arith)) (fits-none (list-none (omega arith)))
+-- Listing sets, and finding one core.
+list-right : (which : WhichList) (text lent : List ℕ) → Right (ListFits which text lent) (listOutcome which text lent)
+list-right which text lent =
+    let n = list-numbers which text lent in
+    own-right text 11 (length lent < 2 * length (listIn which text)) (omega arith) (decLt (length lent) (2 * length (listIn which text)))
+    (n .byText) (n .byLength) (λ e h. n .byNone e (omega arith))
 
-  list-right : Right (ListFits which text lent) (listOutcome which text lent)
-  unfolding textOutcome
-  list-right = go refl (right-outcome text)
-    where
-      go : {o : Outcome} → textOutcome text ≡ o → RightOutcome text o → Right (ListFits which text lent) (listOutcome which text lent)
-      go e (none-fits n) = list-by-length e n (decLt (length lent) (2 * length (listIn which text)))
-      go e (first-fits f) = listed-rightly (numbers-listed .byText _ _ e) (fits-first (text-first (ListFits which text lent) (λ n l g. list-text g) list-out f))
+one-core-right : (text order : List ℕ) → Right (OneCoreFits text order) (oneCoreOutcome text order)
+one-core-right text order = go (order-or-not (rulesIn text) order)
+  where
+    n : OneCoreNumbers text order (oneCoreOutcome text order)
+    n = one-core-numbers text order
+
+    go : Dec (IsOrder (rulesIn text) order) → Right (OneCoreFits text order) (oneCoreOutcome text order)
+    go (yes o) = own-right text 13 (¬ IsOrder (rulesIn text) order) (omega arith) (no (λ f. f o)) (n .byText) (n .byOrder) (λ e _. n .byNone e o)
+    go (no f) = own-right text 13 (¬ IsOrder (rulesIn text) order) (omega arith) (yes f) (n .byText) (n .byOrder) (λ e not. absurd (not f))
 
 -- ---- giving MUST, MAY or the irrelevant rules
 
@@ -297,7 +314,7 @@ module _ (text : List ℕ) where
   set-other S number line q = let z : _≡_ {A = ℕ} 0 1 = cc in omega arith
 
   pub calls-meet-demand1 : Demand1 text
-  unfolding judgeAnswer judgeBytes reachedAnswer reachedBytes listAnswer listBytes kindAnswer judgeParts reachedParts listParts setParts
+  unfolding judgeAnswer judgeBytes reachedAnswer reachedBytes listAnswer listBytes kindAnswer oneCoreAnswer judgeParts reachedParts listParts setParts oneCoreParts
   calls-meet-demand1 =
       record {
         judge = λ S lent.
@@ -306,15 +323,20 @@ module _ (text : List ℕ) where
             refusals (asked-zero text S (length lent < statesIn text)) ReachedRefused reachedParts (λ n l. refl) _ (pairs-told (pairsIn text S)) (λ n l k j q. cc)
             (reached-right text S lent) (marksIn text S) lent;
         list = λ which lent.
-            refusals (list-zero which text lent) ListRefused listParts (λ n l. refl) _ (count-other (length (listIn which text))) (λ n l k j q. cc) (list-right which text lent)
+            refusals (own-zero text 11 (length lent < 2 * length (listIn which text))) ListRefused listParts (λ n l. refl) _ (count-other (length (listIn which text))) (λ n l k j q. cc) (list-right which text lent)
             (bytesOf (listIn which text)) lent;
         kind = λ kind.
             let r = refusals (text-zero text) SetRefused setParts (λ n l. refl) _ (set-other (kindIn kind text)) (λ n l k j q. cc) (text-right text) [] [] in
             record { first = r .first; accepted = r .accepted; zero = r .zero; kept = λ n l q. refl };
+        oneCore = λ order.
+            let r = refusals (own-zero text 13 (¬ IsOrder (rulesIn text) order)) OneCoreRefused oneCoreParts (λ n l. refl) _ (found-told (oneCoreIn text order)) (λ n l k j q. cc)
+            (one-core-right text order) [] []
+            in
+            record { first = r .first; accepted = r .accepted; zero = r .zero; kept = λ n l q. refl };
       }
 
   pub hosts-meet-demand1 : HostDemand1 text
-  unfolding judgeAnswer judgeBytes reachedAnswer reachedBytes listAnswer listBytes kindAnswer judgeParts reachedParts listParts setParts
+  unfolding judgeAnswer judgeBytes reachedAnswer reachedBytes listAnswer listBytes kindAnswer oneCoreAnswer judgeParts reachedParts listParts setParts oneCoreParts
   hosts-meet-demand1 =
       record {
         judge = λ S lent.
@@ -324,10 +346,15 @@ module _ (text : List ℕ) where
             host-refusals (asked-zero text S (length lent < statesIn text)) ReachedRefused reachedParts (λ n l. refl) _ (pairs-told (pairsIn text S)) (λ n l k j q. cc)
             (reached-right text S lent) (marksIn text S) lent (reached-reads text S lent);
         list = λ which lent.
-            host-refusals (list-zero which text lent) ListRefused listParts (λ n l. refl) _ (count-other (length (listIn which text))) (λ n l k j q. cc) (list-right which text lent)
+            host-refusals (own-zero text 11 (length lent < 2 * length (listIn which text))) ListRefused listParts (λ n l. refl) _ (count-other (length (listIn which text))) (λ n l k j q. cc) (list-right which text lent)
             (bytesOf (listIn which text)) lent (list-reads which text lent);
         kind = λ kind.
             let r = host-refusals (text-zero text) SetRefused setParts (λ n l. refl) _ (set-other (kindIn kind text)) (λ n l k j q. cc) (text-right text) [] [] (kind-reads kind text)
+            in
+            record { accepted = r .accepted; first = r .first; kept = λ n l f. refl };
+        oneCore = λ order.
+            let r = host-refusals (own-zero text 13 (¬ IsOrder (rulesIn text) order)) OneCoreRefused oneCoreParts (λ n l. refl) _ (found-told (oneCoreIn text order)) (λ n l k j q. cc)
+            (one-core-right text order) [] [] (one-core-reads text order)
             in
             record { accepted = r .accepted; first = r .first; kept = λ n l f. refl };
       }

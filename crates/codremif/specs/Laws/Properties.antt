@@ -1,6 +1,6 @@
 -- Several properties together: what the calls answer for an accepted text is told by what they answer for the texts with one of its properties alone.
 -- From the laws of a model and its properties (`semantics`), the cores of a conjunction of judgements (`sets`), demand 2, and how calls tell answers.
-use Prim.Native.Nat.{ℕ, _*_, _^_, _≤_, _<_}
+use Prim.Native.Nat.{ℕ, _^_, _≤_, _<_}
 use mathlib.Core.Path.{_≡_, refl, sym, ap, _∙_, subst}
 use mathlib.Core.Logic.{_↔_}
 use mathlib.Core.Bool.{true, false}
@@ -28,66 +28,17 @@ use Rattle.semantics.specs.Meaning.{systemOf, judge}
 use Rattle.semantics.specs.Laws.Properties.{judged-jointly}
 use Rattle.sorting.specs.declared.which.WhichList.the-variants.{Cores}
 use Rattle.sorting.specs.Which.{listed}
-use Rattle.calls.specs.declared.answers.JudgeAnswer.{JudgeAnswer}
-use Rattle.calls.specs.declared.answers.JudgeAnswer.the-variants.{Refused as JudgeRefused, Holds, Broken}
+use Rattle.calls.specs.declared.answers.JudgeAnswer.the-variants.{Broken}
 use Rattle.calls.specs.Answers.{rulesIn, systemIn, judgeIn, listIn, textOutcome, judgeAnswer, judgeBytes}
-use Rattle.calls.specs.Laws.Answers.{judge-enough, given-accepted, not-refused, verdict-broken}
+use Rattle.calls.specs.Laws.Answers.{judge-enough, verdict-broken}
 use Rattle.calls.specs.Laws.Sizes.{trace-le}
-use Rattle.codremif.specs.Packing.{accepted, refused, judgeParts, packed}
-use Rattle.codremif.specs.Demand3.{inRattle, forHosts, Judges}
-use Rattle.codremif.specs.Suffices.{TextTelling, textByAnswers, textByHosts, WroteList}
+use Rattle.codremif.specs.Packing.{accepted}
+use Rattle.codremif.specs.Suffices.{TextTelling, textByAnswers, textByHosts}
 use Rattle.codremif.specs.Properties.{propertiesIn, textBy, judgementsBy, FirstShown, JointList, SeveralProperties}
 use Rattle.codremif.specs.Laws.Written.{written-accepted, written-rules, written-system, written-judge, told-legal}
-use Rattle.codremif.specs.Laws.Host.{judge-reads}
 use Rattle.codremif.specs.Laws.Demand2.{judging-meets-demand2}
-use Rattle.codremif.specs.Laws.Demand3.{monotone-in, judges-in, judges-packed}
-use Rattle.codremif.specs.Laws.Suffices.{answer-wrote, host-wrote}
-
--- ---- how calls tell
-
--- What the theorem needs of how calls tell their answers.
-record Tells {J L M : Type 0} (w : TextTelling J L M) : Type 0 where
-  judges : (text : List ℕ) → textOutcome text ≡ Accepted → Judges (w .calls) text (judgeIn text)
-  broken : (text : List ℕ) (S : ℕ) (lent : List ℕ) (n : ℕ) → n ≤ 128 → (w .calls .judge text S lent ≡ w .broken n) ↔ (judgeAnswer text S lent ≡ Broken n)
-  wrote : (text : List ℕ) → textOutcome text ≡ Accepted → (list : List ℕ) → WroteList w Cores text list → list ≡ bytesOf (listIn Cores text)
-
-answers-tell : Tells textByAnswers
-unfolding textByAnswers inRattle
-answers-tell = record {
-  judges = judges-in;
-  broken = λ text S lent n _. (λ e. e, λ e. e);
-  wrote = λ text model list r. answer-wrote text model Cores list r;
-}
-
--- A refusal has a number other than 0.
-refused-some : (text : List ℕ) (S : ℕ) (lent : List ℕ) {number line : ℕ} → judgeAnswer text S lent ≡ JudgeRefused number line → number ≡ 0 → ⊥
-unfolding judgeAnswer judgeParts refused
-refused-some text S lent {number} {line} q z =
-    let accepted = judge-reads text S lent .zero .0 (ap (λ a. judgeParts a .number) q ∙ z) in
-    not-refused (systemIn text S) number line (sym (given-accepted JudgeRefused _ accepted) ∙ q)
-
--- A packed answer of so many times 65,536 is that of a trace of so many states.
-broken-packed : (text : List ℕ) (S : ℕ) (lent : List ℕ) (n : ℕ) → n ≤ 128
-    → (packed (judgeParts (judgeAnswer text S lent)) ≡ 65536 * n) ↔ (judgeAnswer text S lent ≡ Broken n)
-unfolding packed judgeParts accepted refused
-broken-packed text S lent n h = (go (judgeAnswer text S lent) refl, λ e. ap (λ a. packed (judgeParts a)) e ∙ omega arith)
-  where
-    go : (a : JudgeAnswer) → judgeAnswer text S lent ≡ a → packed (judgeParts a) ≡ 65536 * n → a ≡ Broken n
-    go Holds q e = absurd (omega arith)
-    go (Broken m) q e = ap Broken (omega arith)
-    go (JudgeRefused number line) q e =
-        let r = judge-reads text S lent .range in
-        let few = ap (λ a. judgeParts a .number) q in
-        let short = ap (λ a. judgeParts a .line) q in
-        absurd (refused-some text S lent q (omega (arith, r .number, r .line)))
-
-hosts-tell : Tells textByHosts
-unfolding textByHosts forHosts
-hosts-tell = record {
-  judges = judges-packed;
-  broken = broken-packed;
-  wrote = λ text model list r. host-wrote text model Cores list r;
-}
+use Rattle.codremif.specs.Laws.Demand3.{monotone-in}
+use Rattle.codremif.specs.Laws.Telling.{Tells, answers-tell, hosts-tell}
 
 -- ---- what is shown
 

@@ -29,7 +29,7 @@ unfolding setAtByte bytesOf
 two-bytes S l h = omega arith
 
 module _ (P : ℕ → Type 0) where
-  stands : (l : List ℕ) → ((C : ℕ) → C ∈ l → C < 65536) → (C : ℕ) → C ∈ l → P C → (place : ℕ) × Stands P (bytesOf l) place
+  pub stands : (l : List ℕ) → ((C : ℕ) → C ∈ l → C < 65536) → (C : ℕ) → C ∈ l → P C → (place : ℕ) × Stands P (bytesOf l) place
   unfolding bytesOf
   stands (S ∷ l) small C (List·Memᴰ·head e) p =
       (0, record { even = refl; within = omega (arith, length-bytesOf (S ∷ l)); itself = rw (two-bytes S l (small S (List·Memᴰ·head refl)), sym e) p })
@@ -38,7 +38,7 @@ module _ (P : ℕ → Type 0) where
       (suc (suc (r .0)), behind (r .1))
 
   -- What stands there is a listed set.
-  listed : (l : List ℕ) → ((C : ℕ) → C ∈ l → C < 65536) → (place : ℕ) → Stands P (bytesOf l) place → (C : ℕ) × (C ∈ l) × P C
+  pub listed : (l : List ℕ) → ((C : ℕ) → C ∈ l → C < 65536) → (place : ℕ) → Stands P (bytesOf l) place → (C : ℕ) × (C ∈ l) × P C
   unfolding setAtByte bytesOf
   listed [] small place s = absurd (omega (arith, s .within))
   listed (S ∷ l) small zero s = (S, List·Memᴰ·head refl, rw (two-bytes S l (small S (List·Memᴰ·head refl))) at (s .itself))
@@ -59,7 +59,7 @@ a-first q P means list place s = go (firstIn q list) refl
 -- ---- the lists of a judgement
 
 module _ (R : ℕ) (h : ℕ → Bool) (few : R ≤ 16) where
-  core-small : (C : ℕ) → C ∈ coresOf R h → C < 65536
+  pub core-small : (C : ℕ) → C ∈ coresOf R h → C < 65536
   core-small C m = omega (arith, coresOf-lists R h .only C m .rules, pow-mono few)
 
   cut-small : (C : ℕ) → C ∈ cutsOf R h → C < 65536

@@ -15,6 +15,7 @@ use codremif_host::compare::place_in;
 use codremif_host::judgements;
 use codremif_host::plain::answers::{judge, list_bytes, reached, write_list};
 use codremif_host::plain::lookup;
+use codremif_host::plain::one_core::one_core;
 use codremif_host::plain::sets::{irrelevant, may, must, Verdicts};
 use codremif_host::plain::system::TransitionSystem;
 use codremif_host::plain::text::{self, Model};
@@ -29,8 +30,9 @@ const MOST_RUNS: usize = 201;
 
 fn main() {
     let folder = std::env::args().nth(1);
-    if let Some(folder) = &folder {
-        table("Sample models", sample_models(Path::new(folder)));
+    let samples = folder.map_or_else(Vec::new, |folder| sample_models(Path::new(&folder)));
+    if !samples.is_empty() {
+        table("Sample models", samples.clone());
     }
     table(
         "Smallest models",
@@ -40,6 +42,7 @@ fn main() {
     table("Growing N, 16 rules", (1..=7).map(|bits| growing(bits, 16)).collect());
     table("Growing R, 7 bits", (1..=16).map(|rules| growing(7, rules)).collect());
     table_of_weak_sets();
+    table_of_one_core(samples);
     table_of_properties();
     table_of_lookups();
     println!(
@@ -48,12 +51,16 @@ fn main() {
     println!("'judged' is how many sets a list call judges; the plain search judges all 2^R, and MUST takes R + 1 at most.");
     println!("The judge call is given the full set where no set is named. All answers of the two sides were alike.");
     println!("Of weak sets, 'in full' is 128 pairs for each reached state: so many are tried without the early end.");
+    println!(
+        "Next to MUST, 'ratio' is the time of one core divided by that of MUST; at most 1.1 is asked for."
+    );
     println!("Next to one property, 'ratio' is the time with four divided by the time with one; at most 1.2 is asked for.");
     println!(
         "Where a set is looked up, times are nanoseconds for each listed set passed over; at most 2 are stated."
     );
 }
 
+#[derive(Clone)]
 struct Case {
     name: String,
     text: Vec<u8>,
@@ -150,7 +157,11 @@ fn table(title: &str, cases: Vec<Case>) {
 }
 
 fn heading(call: &str) -> String {
-    format!(" {:>9} {:>9} {:>7}", call, "plain", "ratio")
+    heading_next_to(call, "plain")
+}
+
+fn heading_next_to(call: &str, other: &str) -> String {
+    format!(" {call:>9} {other:>9} {:>7}", "ratio")
 }
 
 fn row(case: &Case) -> String {
@@ -228,6 +239,50 @@ fn row_of_a_set(text: &[u8], set: u32) -> String {
     format!("{states:>6} {pairs:>5} {:>7} |{judged} |{marked}", 128 * states)
 }
 
+/// Sizes from the smallest model to the largest, where the form is the same.
+const SIZES: [(usize, usize); 7] = [(1, 1), (2, 2), (3, 3), (4, 4), (7, 1), (7, 4), (7, 16)];
+
+fn table_of_one_core(samples: Vec<Case>) {
+    println!("One core next to MUST, with the first rule first in the order and with the last");
+    println!(
+        "{:<22} {:>1} {:>2} |{} |{} |{}",
+        "model",
+        "N",
+        "R",
+        heading("one core"),
+        heading_next_to("first", "MUST"),
+        heading_next_to("last", "MUST")
+    );
+    let by_size = SIZES.map(|(bits, rules)| growing(bits, rules));
+    for case in samples.into_iter().chain(largest_models()).chain(by_size) {
+        println!("{}", row_of_one_core(&case));
+    }
+    println!();
+}
+
+fn row_of_one_core(case: &Case) -> String {
+    let text = &case.text[..];
+    let model = read(text);
+    let first: Vec<u8> = (0..model.rules.len() as u8).collect();
+    let last: Vec<u8> = first.iter().rev().copied().collect();
+    let timed =
+        timed(|| calls::one_core(text, &first), || one_core(&TransitionSystem::of(&read(text)), &first));
+    assert_eq!(
+        calls::one_core(text, &last),
+        one_core(&TransitionSystem::of(&model), &last),
+        "library left, plain search right"
+    );
+    let next_to_must = |order: &[u8]| in_turns(|| calls::one_core(text, order), || calls::must(text));
+    format!(
+        "{:<22} {:>1} {:>2} |{timed} |{} |{}",
+        case.name,
+        model.bits,
+        model.rules.len(),
+        next_to_must(&first),
+        next_to_must(&last)
+    )
+}
+
 /// The same model in two texts: with four properties, and with one property that is their conjunction.
 struct Conjoined {
     name: String,
@@ -261,10 +316,9 @@ impl Conjoined {
 
 /// The smallest models, where three lines more to read tell most, and some of the largest.
 fn conjoined_models() -> Vec<Conjoined> {
-    let sizes = [(1, 1), (2, 2), (3, 3), (4, 4), (7, 1), (7, 4), (7, 16)];
     let by_size =
         |(bits, rules)| Conjoined::by_bit(&format!("N {bits}, R {rules}"), &growing_model(bits, rules));
-    let mut models: Vec<Conjoined> = sizes.map(by_size).into();
+    let mut models: Vec<Conjoined> = SIZES.map(by_size).into();
     let alternatives = model_of(&mut Random::new(8), Kind::Alternatives, 7, 16);
     models.push(Conjoined::by_bit("alternatives, hundreds", &alternatives));
     // Together they say that `a` is 0, as the one property of these models does.
@@ -278,8 +332,8 @@ fn conjoined_models() -> Vec<Conjoined> {
 
 fn table_of_properties() {
     println!("Four properties next to one that is their conjunction");
-    let heading = |call| format!(" {call:>9} {:>9} {:>7}", "one", "ratio");
-    println!("{:<22} {:>1} {:>2} |{} |{}", "model", "N", "R", heading("cores"), heading("cuts"));
+    let (cores, cuts) = (heading_next_to("cores", "one"), heading_next_to("cuts", "one"));
+    println!("{:<22} {:>1} {:>2} |{cores} |{cuts}", "model", "N", "R");
     for model in conjoined_models() {
         let (cores, cuts) = (conjoined_list(&model, calls::cores), conjoined_list(&model, calls::cuts));
         let Conjoined { name, written, .. } = model;
@@ -289,12 +343,12 @@ fn table_of_properties() {
 }
 
 /// Both texts have the same list.
-fn conjoined_list(model: &Conjoined, call: fn(&[u8], &mut [u8]) -> Result<usize, Refused>) -> NextToOne {
+fn conjoined_list(model: &Conjoined, call: fn(&[u8], &mut [u8]) -> Result<usize, Refused>) -> NextTo {
     let (mut sets_of_four, mut sets_of_one) = (vec![0; calls::LIST_BYTES], vec![0; calls::LIST_BYTES]);
-    let times = in_turns(
-        || call(&model.four, &mut sets_of_four).expect("an accepted model"),
-        || call(&model.one, &mut sets_of_one).expect("an accepted model"),
-    );
+    let four = call(&model.four, &mut sets_of_four).expect("an accepted model");
+    let one = call(&model.one, &mut sets_of_one).expect("an accepted model");
+    assert_eq!(four, one, "{}: four properties left, one right", model.name);
+    let times = in_turns(|| call(&model.four, &mut sets_of_four), || call(&model.one, &mut sets_of_one));
     assert_eq!(sets_of_four, sets_of_one, "{}: lent bytes, four properties left, one right", model.name);
     times
 }
@@ -403,37 +457,34 @@ fn middle(mut times: Vec<Duration>) -> Duration {
     times[times.len() / 2]
 }
 
-/// How long a list takes with four properties, and with one that is their conjunction.
-struct NextToOne {
-    four: Duration,
-    one: Duration,
+/// How long a call takes, and another one that it is held to.
+struct NextTo {
+    call: Duration,
+    other: Duration,
 }
 
-impl std::fmt::Display for NextToOne {
+impl std::fmt::Display for NextTo {
     fn fmt(&self, out: &mut std::fmt::Formatter) -> std::fmt::Result {
         let milliseconds = |time: Duration| time.as_secs_f64() * 1000.0;
-        let (four, one) = (milliseconds(self.four), milliseconds(self.one));
-        write!(out, " {four:>9.4} {one:>9.4} {:>7.2}", four / one)
+        let (call, other) = (milliseconds(self.call), milliseconds(self.other));
+        write!(out, " {call:>9.4} {other:>9.4} {:>7.2}", call / other)
     }
 }
 
-/// The median times of two calls with the same answer, made in turns so that both meet the same machine. Calls that take
-/// little are made several times on end, so that looking at the clock does not count.
-fn in_turns<T: PartialEq + std::fmt::Debug>(
-    mut four: impl FnMut() -> T,
-    mut one: impl FnMut() -> T,
-) -> NextToOne {
+/// The median times of two calls, made in turns so that both meet the same machine. Calls that take little are made several
+/// times on end, so that looking at the clock does not count.
+fn in_turns<T, U>(mut call: impl FnMut() -> T, mut other: impl FnMut() -> U) -> NextTo {
     const ON_END: Duration = Duration::from_micros(50);
     let start = Instant::now();
-    assert_eq!(four(), one(), "four properties left, one right");
+    black_box((call(), other()));
     let calls = (2 * ON_END.as_nanos() / start.elapsed().as_nanos().max(1)).max(1) as u32;
     let begun = Instant::now();
-    let (mut times_of_four, mut times_of_one) = (Vec::new(), Vec::new());
-    while times_of_four.len() < MOST_RUNS && begun.elapsed() < 4 * TIME_FOR_RUNS {
-        times_of_four.push(time_of_each(calls, &mut four));
-        times_of_one.push(time_of_each(calls, &mut one));
+    let (mut times, mut times_of_other) = (Vec::new(), Vec::new());
+    while times.len() < MOST_RUNS && begun.elapsed() < 4 * TIME_FOR_RUNS {
+        times.push(time_of_each(calls, &mut call));
+        times_of_other.push(time_of_each(calls, &mut other));
     }
-    NextToOne { four: middle(times_of_four), one: middle(times_of_one) }
+    NextTo { call: middle(times), other: middle(times_of_other) }
 }
 
 fn time_of_each<T>(calls: u32, mut run: impl FnMut() -> T) -> Duration {

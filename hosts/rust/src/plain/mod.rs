@@ -6,6 +6,7 @@
 //! * [`trace`]: the shortest run to a bad state, the first of its length.
 //! * [`reached`]: the reached states of a set, in the order of marking, and the pairs that are tried for them.
 //! * [`sets`]: every rule set judged; cores, cuts, MUST, MAY and the irrelevant rules by definition.
+//! * [`one_core`]: one core in the caller's order, and the judgements that it takes.
 //! * [`answers`]: the calls that read a text.
 //! * [`lookup`]: the calls that read none, but a core list and a cut list.
 //! * [`report`]: the report, as bytes.
@@ -13,6 +14,7 @@
 pub mod answers;
 pub mod expression;
 pub mod lookup;
+pub mod one_core;
 pub mod reached;
 pub mod report;
 pub mod sets;

@@ -1,9 +1,10 @@
-//! Models, damaged texts and lists made from a seed.
+//! Models, damaged texts, lists and orders made from a seed.
 
 pub mod damage;
 pub mod generator;
 pub mod lists;
 pub mod models;
+pub mod orders;
 pub mod properties;
 pub mod written;
 

@@ -16,5 +16,5 @@ pack-spec =
     (λ c. search needs)
     (λ c. search needs)
     (λ c. search needs)
-    (λ c. rw (c .if1 .taken))
+    (λ c. rw (c .if1 .taken) (omega arith))
     (λ c. rw (c .if1 .left) (omega arith)))

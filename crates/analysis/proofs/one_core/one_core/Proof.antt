@@ -1,0 +1,17 @@
+-- `analysis::one_core::one_core` meets its contract: either array has room for the masks.
+-- Assumes nothing.
+use native.Mathlib.Omega.{arith}
+use Rattle.semantics.specs.Laws.Filled.{repeats, array-room}
+use Rattle.analysis.proofs.one_core.one_core.Statement.{statement}
+use Rattle.analysis.proofs.one_core.one_core.Tie as tie
+
+pub one-core-spec : {M : Type 1} → statement M
+one-core-spec =
+    tie.close
+    (tie.spec
+    (λ c. repeats 1024 0)
+    (λ c κs. let p = c .before .before .before .before .before .pre in (array-room 1024 3 (omega arith) (omega (arith, c .before .if1 .taken)) (p .0), p .1))
+    (λ c. repeats 16384 0)
+    (λ c κs. let p = c .before .before .before .before .before .pre in (array-room 16384 7 (omega arith) (p .0 .vars) (p .0), p .1))
+    (λ c. c .before .one-core-with .ensures)
+    (λ c. c .before .one-core-with2 .ensures))
