@@ -11,6 +11,7 @@
 #include <string.h>
 #include <sys/time.h>
 
+#include "checks.h"
 #include "codremif.h"
 #include "models.h"
 
@@ -19,14 +20,6 @@
 
 typedef uint64_t (*set_call)(const uint8_t *, size_t, uint32_t, uint8_t *, size_t);
 typedef uint64_t (*list_call)(const uint8_t *, size_t, uint8_t *, size_t);
-
-static int failures;
-
-static void check(int good, const char *what)
-{
-    printf("%s %s\n", good ? "ok" : "FAILED", what);
-    failures += !good;
-}
 
 static void *block(size_t size)
 {
@@ -651,5 +644,5 @@ int main(void)
     test_bases();
     test_threads();
     test_signals();
-    return failures != 0;
+    return exit_status();
 }

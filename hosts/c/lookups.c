@@ -7,6 +7,7 @@
 #include <stdio.h>
 #include <stdlib.h>
 
+#include "checks.h"
 #include "codremif.h"
 #include "fences.h"
 #include "models.h"
@@ -19,14 +20,6 @@
 
 /* More sets than the list of any model has. */
 #define MANY_SETS ((size_t)200000)
-
-static int failures;
-
-static void check(int good, const char *what)
-{
-    printf("%s %s\n", good ? "ok" : "FAILED", what);
-    failures += !good;
-}
 
 /* A list as a test writes it. */
 struct list {
@@ -280,5 +273,5 @@ int main(void)
     test_shared_memory();
     test_many_sets();
     test_pairs();
-    return failures != 0;
+    return exit_status();
 }

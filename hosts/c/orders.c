@@ -7,6 +7,7 @@
 #include <stdlib.h>
 #include <string.h>
 
+#include "checks.h"
 #include "codremif.h"
 #include "fences.h"
 #include "models.h"
@@ -18,14 +19,6 @@
 #define FOUND(set, rules) (65536 * (uint64_t)(set) + TWO_40 + ((rules) + 1) * TWO_41)
 #define NO_CORE TWO_41
 #define REFUSED ((uint64_t)13)
-
-static int failures;
-
-static void check(int good, const char *what)
-{
-    printf("%s %s\n", good ? "ok" : "FAILED", what);
-    failures += !good;
-}
 
 /* An order as a test writes it. */
 struct order {
@@ -262,5 +255,5 @@ int main(void)
     test_null_and_shared_memory();
     test_pairs();
     test_bases();
-    return failures != 0;
+    return exit_status();
 }

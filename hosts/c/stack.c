@@ -10,6 +10,7 @@
 #include <stdlib.h>
 #include <string.h>
 
+#include "checks.h"
 #include "codremif.h"
 #include "models.h"
 
@@ -48,7 +49,6 @@ static const uint8_t order[CODREMIF_RULES + 1] = {0, 1, 2, 3, 4, 5, 6, 7, 8, 9, 
 static size_t most[CALLS];
 static size_t widest_gap;
 static int as_meant = 1;
-static int failures;
 
 /* One call on a painted stack, and what it left of the paint. */
 struct run {
@@ -62,12 +62,6 @@ struct run {
     size_t need;
     size_t gap;
 };
-
-static void check(int good, const char *what)
-{
-    printf("%s %s\n", good ? "ok" : "FAILED", what);
-    failures += !good;
-}
 
 static uint64_t ask(const struct run *run)
 {
@@ -248,5 +242,5 @@ int main(void)
     check(all == CODREMIF_STACK_BYTES, "CODREMIF_STACK_BYTES is the most of them");
     check(widest_gap < PAGE_BYTES, "no page of the stack is passed over");
     check(as_meant, "each model, each order and each list is accepted or refused as it is meant to be");
-    return failures != 0;
+    return exit_status();
 }

@@ -10,16 +10,9 @@
 #include <stdlib.h>
 #include <string.h>
 
+#include "checks.h"
 #include "codremif.h"
 #include "models.h"
-
-static int failures;
-
-static void check(int good, const char *what)
-{
-    printf("%s %s\n", good ? "ok" : "FAILED", what);
-    failures += !good;
-}
 
 /* A number below a bound; the same ones in each run. */
 static unsigned below(unsigned bound)
@@ -424,5 +417,5 @@ int main(int argc, char **argv)
     test_random_orders(count);
     test_other_texts();
     test_longest_names();
-    return failures != 0;
+    return exit_status();
 }
