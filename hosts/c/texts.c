@@ -157,6 +157,15 @@ static void test_random_models(unsigned count)
     check(kinds_agree, "random models: each rule is in exactly one of MUST, MAY and the irrelevant rules");
 }
 
+/* The text of a random model, in a block of just its length. */
+static uint8_t *random_text(size_t *length)
+{
+    struct random_model random;
+    random_model(&random);
+    *length = random.joint.length;
+    return copy(random.joint.text, random.joint.length);
+}
+
 /* What was said of the sets of random models that were looked up in the models' own lists. */
 struct said {
     unsigned inside, apart, unlisted, unlike_judged, no_witness;
@@ -187,10 +196,9 @@ static void test_random_lookups(unsigned count)
 {
     struct said said = {0, 0, 0, 0, 0};
     for (unsigned i = 0; i < count; i++) {
-        struct random_model random;
-        random_model(&random);
-        uint8_t *text = copy(random.joint.text, random.joint.length);
-        look_up(text, random.joint.length, &said);
+        size_t length;
+        uint8_t *text = random_text(&length);
+        look_up(text, length, &said);
         free(text);
     }
     check(said.inside > count && said.apart > count && said.inside + said.apart == 8 * count,
@@ -359,10 +367,9 @@ static void test_random_orders(unsigned count)
 {
     struct found found = {0, 0, 0, 0, 0, 0};
     for (unsigned i = 0; i < count; i++) {
-        struct random_model random;
-        random_model(&random);
-        uint8_t *text = copy(random.joint.text, random.joint.length);
-        find_cores(text, random.joint.length, &found);
+        size_t length;
+        uint8_t *text = random_text(&length);
+        find_cores(text, length, &found);
         free(text);
     }
     check(found.cores > count / 10 && found.no_core > count / 10 && found.another > count / 20,

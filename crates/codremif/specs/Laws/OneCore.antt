@@ -18,7 +18,7 @@ use Rattle.sets.specs.Laws.Listed.{coresOf-lists}
 use Rattle.sets.specs.Laws.Orders.{outside-first, outside-first-last}
 use Rattle.sets.specs.Laws.OneCore.{one-core-held, one-core-found, one-core-broken}
 use Rattle.models.specs.declared.model.Outcome.the-variants.{Accepted}
-use Rattle.lookup.specs.Laws.Lists.{stands, listed, core-small}
+use Rattle.lookup.specs.Laws.Lists.{stands, is-listed, core-small}
 use Rattle.sorting.specs.declared.which.WhichList.the-variants.{Cores}
 use Rattle.sorting.specs.Which as Which
 use Rattle.calls.specs.declared.answers.JudgeAnswer.the-variants.{Broken}
@@ -82,11 +82,11 @@ module _ (text : List ℕ) (model : textOutcome text ≡ Accepted) where
   from-list : (C : ℕ) → StandsIn C (bytesOf (listIn Cores text)) → Among R (Core h) C
   unfolding listIn Which.listed
   from-list C s =
-      let c = listed (λ S. S ≡ C) (coresOf R h) (core-small R h (rules-most text)) (s .0) (s .1) in
+      let c = is-listed (λ S. S ≡ C) (coresOf R h) (core-small R h (rules-most text)) (s .0) (s .1) in
       rw (c .2) at (coresOf-lists R h .only (c .0) (c .1))
 
-  by-order : {J L M A : Type 0} (w : TextTelling J L M) → Tells w → (t : OneCoreTelling A) → TellsOneCore t → InMyOrder w t text
-  by-order w tells t told = record {
+  in-my-order : {J L M A : Type 0} (w : TextTelling J L M) → Tells w → (t : OneCoreTelling A) → TellsOneCore t → InMyOrder w t text
+  in-my-order w tells t told = record {
     everyOrder = λ lent e order o.
         let held = tells .judges text model .byCall (full R) (ones-lt R) lent .1 e in
         let c = one-core-held R h (monotone-in text) held order o in
@@ -105,7 +105,7 @@ module _ (text : List ℕ) (model : textOutcome text ≡ Accepted) where
 
   -- The call in Rattle, and the exported one.
   pub calls-in-order : InMyOrder textByAnswers oneCoreByAnswers text
-  calls-in-order = by-order textByAnswers answers-tell oneCoreByAnswers answers-tell-core
+  calls-in-order = in-my-order textByAnswers answers-tell oneCoreByAnswers answers-tell-core
 
   pub hosts-in-order : InMyOrder textByHosts oneCoreByHosts text
-  hosts-in-order = by-order textByHosts hosts-tell oneCoreByHosts hosts-tell-core
+  hosts-in-order = in-my-order textByHosts hosts-tell oneCoreByHosts hosts-tell-core

@@ -38,13 +38,13 @@ module _ (P : ℕ → Type 0) where
       (suc (suc (r .0)), behind (r .1))
 
   -- What stands there is a listed set.
-  pub listed : (l : List ℕ) → ((C : ℕ) → C ∈ l → C < 65536) → (place : ℕ) → Stands P (bytesOf l) place → (C : ℕ) × (C ∈ l) × P C
+  pub is-listed : (l : List ℕ) → ((C : ℕ) → C ∈ l → C < 65536) → (place : ℕ) → Stands P (bytesOf l) place → (C : ℕ) × (C ∈ l) × P C
   unfolding setAtByte bytesOf
-  listed [] small place s = absurd (omega (arith, s .within))
-  listed (S ∷ l) small zero s = (S, List·Memᴰ·head refl, rw (two-bytes S l (small S (List·Memᴰ·head refl))) at (s .itself))
-  listed (S ∷ l) small (suc zero) s = absurd (omega (arith, s .even))
-  listed (S ∷ l) small (suc (suc place)) s =
-      let r = listed l (λ D n. small D (List·Memᴰ·tail n)) place (ahead-of s) in
+  is-listed [] small place s = absurd (omega (arith, s .within))
+  is-listed (S ∷ l) small zero s = (S, List·Memᴰ·head refl, rw (two-bytes S l (small S (List·Memᴰ·head refl))) at (s .itself))
+  is-listed (S ∷ l) small (suc zero) s = absurd (omega (arith, s .even))
+  is-listed (S ∷ l) small (suc (suc place)) s =
+      let r = is-listed l (λ D n. small D (List·Memᴰ·tail n)) place (ahead-of s) in
       (r .0, List·Memᴰ·tail (r .1), r .2)
 
 -- Where a set that is P stands, there is a first one.
@@ -82,7 +82,7 @@ module _ (R : ℕ) (h : ℕ → Bool) (few : R ≤ 16) where
     -- No core is inside a broken set, and a cut is apart from it.
     broken-none : h S ≡ false → NoneStands (λ C. C ⊑ S) (bytesOf (coresOf R h))
     broken-none e place s =
-        let c = listed (λ C. C ⊑ S) (coresOf R h) core-small place s in
+        let c = is-listed (λ C. C ⊑ S) (coresOf R h) core-small place s in
         let a = coresOf-lists R h .only (c .0) (c .1) in
         true≢false (sym (duality R h mono .inside S rules .1 (c .0, a .rules, a .itself, c .2)) ∙ e)
 

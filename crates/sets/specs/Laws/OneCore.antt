@@ -14,7 +14,7 @@ use Rattle.sets.specs.Cores.{Core, Monotone}
 use Rattle.sets.specs.Orders.{IsOrder, StandLast}
 use Rattle.sets.specs.OneCore.{unjudged, afterVerdict, afterSet, afterRule, afterOrder, oneCoreOf}
 use Rattle.sets.specs.Laws.Bit.{has-below}
-use Rattle.sets.specs.Laws.Sets.{part-refl, part-trans, part-full, part-le, has-without, without-part, without-le}
+use Rattle.sets.specs.Laws.Sets.{part-refl, part-trans, part-full, part-le, has-without, without-part, without-le, without-more, without-above}
 use Rattle.sets.specs.Laws.Choice.{by-test}
 use Rattle.sets.specs.Laws.Cores.{false-if, least-whole}
 use Rattle.sets.specs.Laws.Neighbours.{core-neighbours}
@@ -48,9 +48,6 @@ module _ (h : ℕ → Bool) where
   by-verdict R order e = ap (chosen R order) e
 
 -- ---- what is left
-
-without-more : {S T : ℕ} (i : ℕ) → T ⊑ S → without T i ⊑ without S i
-without-more {S} {T} i p = record { every = λ j e. let w = has-without T i j .0 e in has-without S i j .1 (p .every j (w .0), w .1) }
 
 module _ (R : ℕ) (h : ℕ → Bool) (mono : Monotone R h) where
   -- Of S the set T is left once each rule of the order was tried: T holds, and is broken without any of these rules that it still has.
@@ -127,10 +124,6 @@ module _ (R : ℕ) (h : ℕ → Bool) (mono : Monotone R h) where
     unfolding Core
     held = core .itself
 
-    without-above : {S : ℕ} (i : ℕ) → C ⊑ S → has C i ≡ false → C ⊑ without S i
-    without-above {S} i p n =
-        record { every = λ j e. has-without S i j .1 (p .every j e, λ same. true≢false (sym e ∙ ap (has C) same ∙ n)) }
-
     -- While no rule of the core has been tried, each rule is dropped:
     rest-held : {S : ℕ} (i : ℕ) → S < 2 ^ R → C ⊑ S → has C i ≡ false → h (without S i) ≡ true
     rest-held {S} i below p n = mono .more C (without S i) (omega (arith, without-le S i)) (without-above i p n) held
@@ -186,10 +179,10 @@ module _ (R : ℕ) (h : ℕ → Bool) where
   unfolding afterRule afterSet afterVerdict
   rule-below c i l = by-test (λ (S : ℕ). S < 2 ^ R) (h (without (c .set) i)) (λ _. omega (arith, without-le (c .set) i)) (λ _. l)
 
-  order-below : (order : List ℕ) (c : OneCore) → c .set < 2 ^ R → afterOrder h c order .set < 2 ^ R
+  left-below : (order : List ℕ) (c : OneCore) → c .set < 2 ^ R → afterOrder h c order .set < 2 ^ R
   unfolding afterOrder
-  order-below [] c l = l
-  order-below (i ∷ order) c l = order-below order (afterRule h c i) (rule-below c i l)
+  left-below [] c l = l
+  left-below (i ∷ order) c l = left-below order (afterRule h c i) (rule-below c i l)
 
   pub one-core-size : (order : List ℕ) → (oneCoreOf R h order .set < 2 ^ R) × (oneCoreOf R h order .judgements ≤ 1 + length order)
   unfolding chosen firstBy found
@@ -198,7 +191,7 @@ module _ (R : ℕ) (h : ℕ → Bool) where
       go : (b : Bool) → h (full R) ≡ b → (oneCoreOf R h order .set < 2 ^ R) × (oneCoreOf R h order .judgements ≤ 1 + length order)
       go true e =
           rw (by-verdict h R order e)
-          (order-below order (found (full R) 1) (ones-lt R), omega (arith, ap (λ c. c .judgements) (after-counts h (full R) 1 order)))
+          (left-below order (found (full R) 1) (ones-lt R), omega (arith, ap (λ c. c .judgements) (after-counts h (full R) 1 order)))
       go false e = rw (by-verdict h R order e) (pow-pos R, omega arith)
 
 -- ---- judgements that agree on the sets of R rules

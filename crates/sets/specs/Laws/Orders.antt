@@ -8,7 +8,7 @@ use mathlib.Core.List.{List, [], _∷_, _++_}
 use native.Mathlib.Omega.{arith}
 use native.Mathlib.Decide.{ℕ-discrete, decLt}
 use borrow.Author.Count.{below-more}
-use borrow.Author.Tests.{eqb-true, eq-eqb, ne-eqb, not-true, ltb-true, lt-ltb, le-ltb}
+use borrow.Author.Tests.{eqb-true, eq-eqb, ne-eqb, not-true, not-false, ltb-true, lt-ltb, le-ltb}
 use lib.Dec.{eqb, ltb}
 use lib.ListN.{length, getD, length-append, List·getD-append}
 use lib.Seq.{getD-append-add}
@@ -17,7 +17,7 @@ use Rattle.sets.specs.Gathered.{one}
 use Rattle.sets.specs.Laws.Gathered.{one-lt}
 use Rattle.sets.specs.Lists.{joined, oneIf, select}
 use Rattle.sets.specs.Cores.{noneBelow}
-use Rattle.sets.specs.Laws.Cores.{noneBelow-iff}
+use Rattle.sets.specs.Laws.Cores.{noneBelow-iff, false-if}
 use Rattle.sets.specs.Laws.Listed.{at-place, mem-select}
 use Rattle.sets.specs.Orders.{timesIn, IsOrder, isOrder, StandLast, outsideFirst}
 
@@ -30,7 +30,7 @@ isOrder-iff R order = (
       let both = and-eq-true-iff (eqb (length order) R) (noneBelow other R) .0 e in
       record {
         size = eqb-true (length order) R (both .0);
-        once = λ i l. eqb-true (timesIn i order) 1 (told (eqb (timesIn i order) 1) (noneBelow-iff other R .0 (both .1) i l));
+        once = λ i l. eqb-true (timesIn i order) 1 (not-false _ (false-if (other i) (noneBelow-iff other R .0 (both .1) i l)));
       },
   λ o.
       and-eq-true-iff (eqb (length order) R) (noneBelow other R) .1 (
@@ -42,10 +42,6 @@ isOrder-iff R order = (
     other : ℕ → Bool
     other i = not (eqb (timesIn i order) 1)
 
-    told : (b : Bool) → ¬ (not b ≡ true) → b ≡ true
-    told true n = refl
-    told false n = absurd (n refl)
-
 pub order-or-not : (R : ℕ) (order : List ℕ) → Dec (IsOrder R order)
 order-or-not R order = go (isOrder R order) refl
   where
@@ -56,20 +52,20 @@ order-or-not R order = go (isOrder R order) refl
 -- ---- how many bytes are below a bound
 
 -- How many entries of a list are below n.
-countBelow : ℕ → List ℕ → ℕ
-countBelow n [] = 0
-countBelow n (place ∷ rest) = one (ltb place n) + countBelow n rest
+entriesBelow : ℕ → List ℕ → ℕ
+entriesBelow n [] = 0
+entriesBelow n (place ∷ rest) = one (ltb place n) + entriesBelow n rest
 
-count-le : (n : ℕ) (l : List ℕ) → countBelow n l ≤ length l
-unfolding countBelow
-count-le n [] = omega arith
-count-le n (place ∷ rest) = omega (arith, count-le n rest, one-lt (ltb place n))
+entries-le : (n : ℕ) (l : List ℕ) → entriesBelow n l ≤ length l
+unfolding entriesBelow
+entries-le n [] = omega arith
+entries-le n (place ∷ rest) = omega (arith, entries-le n rest, one-lt (ltb place n))
 
 -- Where all are, each is.
-all-below : (n : ℕ) (l : List ℕ) → length l ≤ countBelow n l → (k : ℕ) → k < length l → getD l k 0 < n
-unfolding countBelow one
+all-below : (n : ℕ) (l : List ℕ) → length l ≤ entriesBelow n l → (k : ℕ) → k < length l → getD l k 0 < n
+unfolding entriesBelow one
 all-below n [] h k g = absurd (omega arith)
-all-below n (place ∷ rest) h zero g = ltb-true place n (told (ltb place n) (omega (arith, count-le n rest)))
+all-below n (place ∷ rest) h zero g = ltb-true place n (told (ltb place n) (omega (arith, entries-le n rest)))
   where
     told : (b : Bool) → 1 ≤ one b → b ≡ true
     told true l = refl
@@ -86,47 +82,47 @@ next-bound place n = go (decLt place n) (ℕ-discrete place n)
     go (no g) (yes e) = rw (lt-ltb place (suc n) (omega arith), le-ltb place n (omega arith), eq-eqb place n e) refl
     go (no g) (no e) = rw (le-ltb place (suc n) (omega arith), le-ltb place n (omega arith), ne-eqb place n e) refl
 
-count-next : (n : ℕ) (l : List ℕ) → countBelow (suc n) l ≡ countBelow n l + timesIn n l
-unfolding countBelow timesIn
-count-next n [] = refl
-count-next n (place ∷ rest) = omega (arith, count-next n rest, next-bound place n)
+entries-next : (n : ℕ) (l : List ℕ) → entriesBelow (suc n) l ≡ entriesBelow n l + timesIn n l
+unfolding entriesBelow timesIn
+entries-next n [] = refl
+entries-next n (place ∷ rest) = omega (arith, entries-next n rest, next-bound place n)
 
-count-none : (l : List ℕ) → countBelow 0 l ≡ 0
-unfolding countBelow one
-count-none [] = refl
-count-none (place ∷ rest) = omega (arith, count-none rest, ap one (le-ltb place 0 (omega arith)))
+entries-none : (l : List ℕ) → entriesBelow 0 l ≡ 0
+unfolding entriesBelow one
+entries-none [] = refl
+entries-none (place ∷ rest) = omega (arith, entries-none rest, ap one (le-ltb place 0 (omega arith)))
 
 -- ---- every place stands there
 
 module _ (l : List ℕ) where
   -- Where each place below n stands there, n entries or more are below n;
-  count-each : (n : ℕ) → ((i : ℕ) → i < n → 1 ≤ timesIn i l) → n ≤ countBelow n l
-  count-each zero each = omega arith
-  count-each (suc n) each = omega (arith, count-each n (λ i h. each i (omega arith)), each n (omega arith), count-next n l)
+  entries-each : (n : ℕ) → ((i : ℕ) → i < n → 1 ≤ timesIn i l) → n ≤ entriesBelow n l
+  entries-each zero each = omega arith
+  entries-each (suc n) each = omega (arith, entries-each n (λ i h. each i (omega arith)), each n (omega arith), entries-next n l)
 
   -- where each stands there once, n;
-  count-once : (n : ℕ) → ((i : ℕ) → i < n → timesIn i l ≡ 1) → countBelow n l ≡ n
-  count-once zero once = count-none l
-  count-once (suc n) once = omega (arith, count-once n (λ i h. once i (omega arith)), once n (omega arith), count-next n l)
+  entries-once : (n : ℕ) → ((i : ℕ) → i < n → timesIn i l ≡ 1) → entriesBelow n l ≡ n
+  entries-once zero once = entries-none l
+  entries-once (suc n) once = omega (arith, entries-once n (λ i h. once i (omega arith)), once n (omega arith), entries-next n l)
 
   -- and where no more are, each stands there once.
-  each-once : (n : ℕ) → ((i : ℕ) → i < n → 1 ≤ timesIn i l) → countBelow n l ≤ n → (i : ℕ) → i < n → timesIn i l ≡ 1
+  each-once : (n : ℕ) → ((i : ℕ) → i < n → 1 ≤ timesIn i l) → entriesBelow n l ≤ n → (i : ℕ) → i < n → timesIn i l ≡ 1
   each-once zero each few i h = absurd (omega arith)
   each-once (suc n) each few i h =
-      let most : n ≤ countBelow n l = count-each n (λ j g. each j (omega arith)) in
+      let most : n ≤ entriesBelow n l = entries-each n (λ j g. each j (omega arith)) in
       let last : 1 ≤ timesIn n l = each n (omega arith) in
       below-more (λ (j : ℕ). timesIn j l ≡ 1) n
-      (each-once n (λ j g. each j (omega arith)) (omega (arith, count-next n l)))
-      (omega (arith, count-next n l))
+      (each-once n (λ j g. each j (omega arith)) (omega (arith, entries-next n l)))
+      (omega (arith, entries-next n l))
       i (omega arith)
 
 -- As many bytes as there are rules, every place among them: they are an order.
 pub is-order : (R : ℕ) (order : List ℕ) → length order ≡ R → ((i : ℕ) → i < R → 1 ≤ timesIn i order) → IsOrder R order
-is-order R order e each = record { size = e; once = each-once order R each (omega (arith, count-le R order)) }
+is-order R order e each = record { size = e; once = each-once order R each (omega (arith, entries-le R order)) }
 
 -- Each byte of an order is the place of a rule.
 pub order-below : {R : ℕ} {order : List ℕ} → IsOrder R order → (k : ℕ) → k < R → getD order k 0 < R
-order-below {R} {order} o k h = all-below R order (omega (arith, o .size, count-once order R (o .once))) k (omega (arith, o .size))
+order-below {R} {order} o k h = all-below R order (omega (arith, o .size, entries-once order R (o .once))) k (omega (arith, o .size))
 
 -- ---- a place that stands there stands somewhere
 

@@ -136,6 +136,14 @@ without-part S i = record { every = λ j e. has-without S i j .0 e .0 }
 pub without-le : (S i : ℕ) → without S i ≤ S
 without-le S i = part-le (without-part S i)
 
+-- It is a part of a larger set without the rule, and has as a part what lacks the rule.
+pub without-more : {S T : ℕ} (i : ℕ) → T ⊑ S → without T i ⊑ without S i
+without-more {S} {T} i p = record { every = λ j e. let w = has-without T i j .0 e in has-without S i j .1 (p .every j (w .0), w .1) }
+
+pub without-above : {S T : ℕ} (i : ℕ) → T ⊑ S → has T i ≡ false → T ⊑ without S i
+without-above {S} {T} i p n =
+    record { every = λ j e. has-without S i j .1 (p .every j e, λ same. true≢false (sym e ∙ ap (has T) same ∙ n)) }
+
 -- A proper part lacks a rule of the whole, so it is a part of the whole without that rule.
 pub proper-without : {S T : ℕ} → ProperPart T S → (i : ℕ) × (has S i ≡ true) × (T ⊑ without S i)
 proper-without {S} {T} p =
