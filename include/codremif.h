@@ -4,8 +4,8 @@
  * The manual for a C programmer. docs/FORMAT.md gives the meanings, with examples; this page
  * repeats what a host needs. It is C99, and C++98 or later.
  *
- * A model is a text: named Boolean rules over one second and the next, and one to four
- * properties. Eight calls read it:
+ * A model is a text: named Boolean rules over one second and the next, which may also speak about
+ * power-up, and one to four properties. Eight calls read it:
  *
  *   codremif_judge    does a set of rules keep every property in every state that can be
  *                     reached? If not: a shortest run to a bad state
@@ -79,15 +79,21 @@
  *
  *   vars=N                one digit, 1 to 7: the number of bits in a state
  *   rules=R               1 to 16, no leading zero: the number of rules
- *   init=EXPRESSION       the start states
+ *   init=EXPRESSION       in which states the unit may start, if no rule of the set forbids it
  *   prop=EXPRESSION       1 to 4 such lines: the properties, each the states that are good by it
- *   rule=NAME:EXPRESSION  R such lines; a name is 1 to 8 bytes from a-z and 0-9, and no two rules
- *                         have the same
+ *   rule=NAME:STEP        R such lines; a name is 1 to 8 bytes from a-z and 0-9, and no two rules
+ *                         have the same. STEP is an expression, the step part of the rule
+ *   rule=NAME:STEP:START  the same with a start part, START: one more expression
  *
  *   An expression has 1 to 64 bytes, operator first: 0 and 1; the first N of a to g (the bits
- *   now); in rules also the first N of A to G (the same bits one second later); ! takes one
+ *   now); in step parts also the first N of A to G (the same bits one second later); ! takes one
  *   operand; &, |, > (implies) and = (alike) take two. The text is no C string: a byte 0 at its
  *   end is refused by 9.
+ *
+ *   The step part of a rule says which state may follow which, and its start part in which states
+ *   the unit may start. A missing start part counts as `1`. A start part is refused by 5 to 8 after
+ *   the step part has passed: by 5 if nothing follows its `:`, by 6 for a third `:` in the line, by
+ *   7 for a capital letter.
  *
  *   Line 4 is due as a property. The line after a property is one too if it starts with `prop=`,
  *   and else the first rule line is due. After four properties it is due in any case, so a fifth
@@ -101,23 +107,29 @@
  *   A state is a number from 0 to 2^N - 1: bit a weighs 1, b 2, c 4, and so on up to g, 64.
  *   A set of rules is a number from 0 to 2^R - 1: the first rule in the text weighs 1, the next
  *   2, and so on. Set 0 is empty, the full set is 2^R - 1 (codremif_full_set).
- *   A trace is one byte for each state, from a start state to a bad one, both included: 1 to 2^N
- *   bytes. A state is bad if it breaks some property. The trace is the shortest run that ends in a
- *   bad state; of several, the one with the smaller state number at the first place where they
- *   differ.
+ *   A trace is one byte for each state, from a start state of the set to a bad one, both included:
+ *   1 to 2^N bytes. A state is bad if it breaks some property. The trace is the shortest run that
+ *   ends in a bad state; of several, the one with the smaller state number at the first place where
+ *   they differ.
  *   A list (of cores or of cuts) has two bytes for each set, low byte first (codremif_set_at
  *   reads one), fewer rules first, then the smaller set number first. Each set stands in it once.
  *   Marks are one byte for each state by number, 2^N bytes: 1 if it is reached, 0 if it is not.
  *   The place of a rule is a number from 0 to R - 1: the first rule in the text has place 0.
  *   An order is R bytes that have each place exactly once.
  *
+ * Start states. The start states of a set are those that meet `init` and the start part of each
+ *   rule in the set; those of set 0 are all that meet `init`. A set with more rules has the same
+ *   ones or fewer. Where it has none it holds, and no state is reached. After the first state of a
+ *   run no start part is asked.
+ *
  * Reached states. A state is reached by a set if some run of the set ends in it; every start state
- *   is. codremif_reached marks the start states first, by number; then each marked state, in the
- *   order of marking, is tried once as the first of a pair with every state by number, marked or
- *   not. A pair that meets every rule of the set marks its second state. As soon as 2^N states are
- *   marked it ends, and no further pair is tried. So the pairs tried are 2^N for each reached
- *   state if some state is not reached, never fewer than the states added to the start states,
- *   none where every state is a start state, and at most 2^N for set 0.
+ *   of the set is. codremif_reached marks the start states of the set first, by number; then each
+ *   marked state, in the order of marking, is tried once as the first of a pair with every state
+ *   by number, marked or not. A pair that meets the step part of every rule in the set marks its
+ *   second state. As soon as 2^N states are marked it ends, and no further pair is tried. So the
+ *   pairs tried are 2^N for each reached state if some state is not reached, never fewer than the
+ *   states added to the start states, none where every state is a start state, and at most 2^N for
+ *   set 0.
  *
  * Properties. All answers are for the properties of the text jointly; which states are reached
  *   does not depend on them. A set holds exactly where it holds for each of them, and their order
@@ -149,8 +161,8 @@
  *
  * Kinds. Each rule is in exactly one of MUST, MAY and the irrelevant rules. Where some rule is in
  *   a core, the model without its irrelevant rules has the same cores by name. Where the
- *   properties hold, one rule outside MUST may get any other legal expression, and they still
- *   hold; with two changed at once they need not.
+ *   properties hold, one rule outside MUST may get any other legal step part, and any other legal
+ *   start part or none, and they still hold; with two rules changed at once they need not.
  *
  * Edges. The properties hold if the full set does, and that is exactly when there is a core:
  *   codremif_count of the cores is then 1 or more. If the full set is broken, there is no core,
@@ -237,12 +249,12 @@ extern "C" {
 #endif
 
 /* The version that this header belongs to: major * 1,000,000 + minor * 1,000 + patch. */
-#define CODREMIF_VERSION 1005000
-#define CODREMIF_VERSION_STRING "1.5.0"
+#define CODREMIF_VERSION 1006000
+#define CODREMIF_VERSION_STRING "1.6.0"
 
-/* An accepted text has at most so many bytes: two counts, `init`, four properties and 16 rules at
- * their longest. */
-#define CODREMIF_TEXT_BYTES 1630
+/* An accepted text has at most so many bytes: two counts, `init`, four properties and 16 rules
+ * with start parts, all at their longest. */
+#define CODREMIF_TEXT_BYTES 2670
 
 /* An accepted text has at most so many properties. */
 #define CODREMIF_PROPERTIES 4
@@ -285,9 +297,10 @@ extern "C" {
 
 /*
  * Why a call is refused; docs/FORMAT.md has an example of each. Numbers 1 to 8 are tried line by
- * line, in this order within a line; after the whole text come 9, 10 and 11, and where an order is
- * handed over 13 after 9. The two calls that read no text try 12 and nothing else. The first line
- * is 1; a number that concerns no line gives line 0. codremif_words has the same words.
+ * line, in this order within a line, and 5 to 8 again on the start part of a rule if its step part
+ * has passed; after the whole text come 9, 10 and 11, and where an order is handed over 13 after 9.
+ * The two calls that read no text try 12 and nothing else. The first line is 1; a number that
+ * concerns no line gives line 0. codremif_words has the same words.
  */
 enum codremif_refusal {
     /* Where no number fits, the call is accepted. */
@@ -305,7 +318,7 @@ enum codremif_refusal {
     CODREMIF_EXPRESSION_LENGTH = 5,
     /* It has a byte other than `0`, `1`, `!`, `&`, `|`, `>`, `=`, a to g and A to G. */
     CODREMIF_BYTE = 6,
-    /* It has a letter beyond the first N, or a capital letter in `init` or `prop`. */
+    /* It has a letter beyond the first N, or a capital letter in `init`, `prop` or a start part. */
     CODREMIF_LETTER = 7,
     /* It isn't exactly one expression. */
     CODREMIF_NOT_ONE = 8,
@@ -539,7 +552,7 @@ static inline const char *codremif_words(unsigned number)
     case CODREMIF_BYTE: return "It has a byte other than `0`, `1`, `!`, `&`, `|`, `>`, `=`, "
         "a to g and A to G.";
     case CODREMIF_LETTER: return "It has a letter beyond the first N, or a capital letter in "
-        "`init` or `prop`.";
+        "`init`, `prop` or a start part.";
     case CODREMIF_NOT_ONE: return "It isn't exactly one expression.";
     case CODREMIF_BYTES_FOLLOW: return "Bytes follow the last rule line (the line after it).";
     case CODREMIF_NO_SUCH_SET: return "The judged set is 2^R or more (line 0).";

@@ -160,14 +160,15 @@ static void test_constants(void)
     check(CODREMIF_LIST_SETS == ways && CODREMIF_LIST_BYTES == 2 * ways, "the longest list is 16 over 8 sets");
     check(CODREMIF_TRACE_BYTES == 1 << 7, "the longest trace is each of 2^7 states");
     check(CODREMIF_MARK_BYTES == 1 << 7, "there is a mark for each of 2^7 states");
-    check(CODREMIF_TEXT_BYTES == 1630 && CODREMIF_PROPERTIES == 4, "the longest text has 1,630 bytes and four properties");
-    check(CODREMIF_TEXT_BYTES == 7 + 9 + (1 + CODREMIF_PROPERTIES) * (5 + 64 + 1) + CODREMIF_RULES * (5 + CODREMIF_NAME_BYTES + 1 + 64 + 1),
+    check(CODREMIF_TEXT_BYTES == 2670 && CODREMIF_PROPERTIES == 4, "the longest text has 2,670 bytes and four properties");
+    check(CODREMIF_TEXT_BYTES ==
+              7 + 9 + (1 + CODREMIF_PROPERTIES) * (5 + 64 + 1) + CODREMIF_RULES * (5 + CODREMIF_NAME_BYTES + 1 + 64 + 1 + 64 + 1),
           "the longest text is all lines at their longest");
     const uint64_t answers[] = {0, 0, 0, 0, 1 + 256 * 8};
     for (unsigned properties = 1; properties <= 5; properties++) {
         struct model model;
         char what[96];
-        model_wide(&model, properties, BYTES_63 "a", BYTES_63 "#");
+        model_wide(&model, properties, BYTES_63 "a", BYTES_63 "#:" BYTES_63 "a");
         struct text text = text_of(model.text, model.length);
         snprintf(what, sizeof what, "all lines at their longest, properties: %u; it is %s", properties, properties <= 4 ? "accepted" : "refused");
         check(model.length == CODREMIF_TEXT_BYTES - 4 * 70 + 70 * properties && codremif_must(text.bytes, text.length) == answers[properties - 1],
@@ -308,6 +309,43 @@ static void test_properties(void)
     free(text.bytes);
 }
 
+/* Tremor that may start in any state, and a rule that it starts quiet. */
+static const char power_up[] = "vars=3\nrules=4\ninit=1\nprop=>c&ab\nrule=ra:>CA\nrule=rb:>CB\nrule=vote:>C&AB\nrule=quiet:1:!c\n";
+/* No state meets both start parts. */
+static const char apart[] = "vars=1\nrules=2\ninit=1\nprop=0\nrule=on:1:a\nrule=off:1:!a\n";
+/* From 0 to 1, 2 and 3: after the first state of a run its start part is not asked. */
+static const char from_0[] = "vars=2\nrules=2\ninit=1\nprop=!&ab\nrule=low:=A!a:&!a!b\nrule=high:=B!=ba\n";
+
+static void test_start_parts(void)
+{
+    struct text text = text_of(power_up, sizeof power_up - 1);
+    check(judged(text, 0, 8, 65536, (const uint8_t[]){4}, 1) && judged(text, 7, 1, 65536, (const uint8_t[]){4}, 1),
+          "a start part: sets without its rule start in a bad state, with a trace of one state");
+    check(judged(text, 8, 8, 2 * 65536, (const uint8_t[]){0, 4}, 2) && judged(text, 9, 8, 2 * 65536, (const uint8_t[]){0, 5}, 2),
+          "a start part: sets with its rule start in 0, and are broken a second later");
+    check(judged(text, 11, 8, TWO_40, NULL, 0) && judged(text, 12, 0, TWO_40, NULL, 0) && judged(text, 15, 8, TWO_40, NULL, 0),
+          "a start part: sets 11, 12 and 15 hold");
+    check(listed(codremif_cores, text, 4, 2 * 65536, (const uint8_t[]){12, 0, 11, 0}, 4) && listed(codremif_cores, text, 3, 11, NULL, 0) &&
+              listed(codremif_cuts, text, 7, 3 * 65536, (const uint8_t[]){8, 0, 5, 0, 6, 0}, 6) && has_kinds(text, 8, 7, 0),
+          "a start part: each core has its rule, which is a cut alone and MUST");
+    check(reached(text, 7, 8, 0, (const uint8_t[]){1, 1, 1, 1, 1, 1, 1, 1}, 8) &&
+              reached(text, 15, 8, 40 * 65536, (const uint8_t[]){1, 1, 1, 1, 0, 0, 0, 1}, 8) && reached(text, 15, 7, 11, NULL, 0),
+          "a start part: without its rule every state is a start state, with it four are");
+    free(text.bytes);
+    text = text_of(apart, sizeof apart - 1);
+    check(judged(text, 0, 2, 65536, (const uint8_t[]){0}, 1) && judged(text, 1, 2, 65536, (const uint8_t[]){1}, 1) &&
+              judged(text, 2, 2, 65536, (const uint8_t[]){0}, 1) && judged(text, 3, 2, TWO_40, NULL, 0),
+          "two start parts: the start states are those that meet the start part of each rule in the set");
+    check(reached(text, 1, 2, 65536, (const uint8_t[]){1, 1}, 2) && reached(text, 3, 2, 0, (const uint8_t[]){0, 0}, 2) && has_kinds(text, 3, 0, 0),
+          "two start parts that no state meets: no state is reached, and both rules are relied on");
+    free(text.bytes);
+    text = text_of(from_0, sizeof from_0 - 1);
+    check(judged(text, 3, 4, 4 * 65536, (const uint8_t[]){0, 1, 2, 3}, 4) && judged(text, 2, 4, 65536, (const uint8_t[]){3}, 1) &&
+              judged(text, 1, 4, 2 * 65536, (const uint8_t[]){0, 3}, 2),
+          "a start part is asked of the first state of a run alone");
+    free(text.bytes);
+}
+
 /* A text in a block of its own length has these kinds. */
 static void check_kinds(const char *bytes, size_t length, uint64_t must, uint64_t may, uint64_t irrelevant, const char *what)
 {
@@ -386,6 +424,31 @@ static const struct refused refused_texts[] = {
     {STATES "prop=a\nrule=a:1\n\n", 9, 7},
     {STATES "prop=a\nprop=a\nrule=a:1\nrule=b:1\n", 9, 8},
     {FOUR "rule=a:1\nr", 9, 9},
+    {STATES "rule=a:1:\n", 5, 5},
+    {STATES "rule=a:1:" BYTES_63 "!a\n", 5, 5},
+    {STATES "rule=a:1:" BYTES_63 "a:\n", 5, 5},
+    {STATES "rule=a:1:a:\n", 6, 5},
+    {STATES "rule=a:1:a:a\n", 6, 5},
+    {STATES "rule=a:1::\n", 6, 5},
+    {STATES "rule=a:1: a\n", 6, 5},
+    {STATES "rule=a:1:A:\n", 6, 5},
+    {STATES "rule=a:1:A\n", 7, 5},
+    {STATES "rule=a:1:b\n", 7, 5},
+    {STATES "rule=a:1:AA\n", 7, 5},
+    {STATES "rule=a:1:aa\n", 8, 5},
+    {STATES "rule=a:1:&a\n", 8, 5},
+    {STATES "rule=a::a\n", 5, 5},
+    {STATES "rule=a::\n", 5, 5},
+    {STATES "rule=a:" BYTES_63 "!a:A\n", 5, 5},
+    {STATES "rule=a:x:\n", 6, 5},
+    {STATES "rule=a:b:\n", 7, 5},
+    {STATES "rule=a:aa:\n", 8, 5},
+    {STATES "rule=a:aa:a:\n", 8, 5},
+    {STATES "rule=a:aa:A\n", 8, 5},
+    {STATES "rule=A:1:\n", 3, 5},
+    {"vars=1\nrules=2\ninit=a\nprop=a\nrule=a:1:1\nrule=a:1:\n", 4, 6},
+    {STATES "rule=a:1:a", 1, 5},
+    {STATES "rule=a:1:a\n\n", 9, 6},
 };
 
 /* Whether every call refuses the text by this number and line, with nothing beside them, and leaves each lent byte as it was. */
@@ -636,6 +699,7 @@ int main(void)
     test_reached_at_the_edges();
     test_largest_reached();
     test_properties();
+    test_start_parts();
     test_kinds();
     test_refused_texts();
     test_null();

@@ -16,7 +16,7 @@
 #include "codremif.h"
 
 /* As many bytes as the report reads; no legal model has more than CODREMIF_TEXT_BYTES. */
-#define READ_BYTES 2048
+#define READ_BYTES 4096
 
 #define USAGE "usage: host MODEL-FILE [SET]\n"
 

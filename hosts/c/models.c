@@ -35,14 +35,14 @@ void model_property(struct model *model, const char *expression)
     add(model, "prop=%s\n", expression);
 }
 
-void model_named_rule(struct model *model, const char *name, const char *expression)
+void model_named_rule(struct model *model, const char *name, const char *parts)
 {
-    add(model, "rule=%s:%s\n", name, expression);
+    add(model, "rule=%s:%s\n", name, parts);
 }
 
-void model_rule(struct model *model, unsigned number, const char *expression)
+void model_rule(struct model *model, unsigned number, const char *parts)
 {
-    add(model, "rule=rule%04u:%s\n", number, expression);
+    add(model, "rule=rule%04u:%s\n", number, parts);
 }
 
 void model_wide(struct model *model, unsigned properties, const char *state, const char *rule)
@@ -51,12 +51,12 @@ void model_wide(struct model *model, unsigned properties, const char *state, con
     for (unsigned more = 1; more < properties; more++)
         model_property(model, state);
     for (unsigned i = 0; i < 16; i++) {
-        char expression[MODEL_ROOM / 16];
-        snprintf(expression, sizeof expression, "%s", rule);
-        for (char *at = expression; *at != '\0'; at++)
+        char parts[MODEL_ROOM / 16];
+        snprintf(parts, sizeof parts, "%s", rule);
+        for (char *at = parts; *at != '\0'; at++)
             if (*at == '#')
                 *at = "abcdefgABCDEFGAa"[i];
-        model_rule(model, i, expression);
+        model_rule(model, i, parts);
     }
 }
 

@@ -21,15 +21,15 @@ void model_begin(struct model *model, unsigned vars, unsigned rules, const char 
 /* Adds a property line. */
 void model_property(struct model *model, const char *expression);
 
-/* Adds a rule line. */
-void model_named_rule(struct model *model, const char *name, const char *expression);
+/* Adds a rule line. What follows the name is the step part, or the step part, `:` and the start part. */
+void model_named_rule(struct model *model, const char *name, const char *parts);
 
-/* Adds a rule line; the name has eight bytes, the most there can be. */
-void model_rule(struct model *model, unsigned number, const char *expression);
+/* The same; the name has eight bytes, the most there can be. */
+void model_rule(struct model *model, unsigned number, const char *parts);
 
 /*
  * Seven letters, so many properties that are all like `init`, and 16 rules that are alike, but that a # in a rule stands for another letter in
- * each.
+ * each, a capital one in seven of them.
  */
 void model_wide(struct model *model, unsigned properties, const char *state, const char *rule);
 

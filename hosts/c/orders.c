@@ -62,6 +62,9 @@ static const char battery[] = "vars=4\nrules=5\ninit=!c\nprop=>c&ab\nrule=motion
                               "rule=lamp:=DC\n";
 static const char shared[] = "vars=2\nrules=3\ninit=&!a!b\nprop=!a\nprop=!b\nprop=!&ab\nprop=1\nrule=ra:!A\nrule=rb:!B\nrule=none:!|AB\n";
 
+/* Tremor that may start in any state, and a rule that it starts quiet. */
+static const char power_up[] = "vars=3\nrules=4\ninit=1\nprop=>c&ab\nrule=ra:>CA\nrule=rb:>CB\nrule=vote:>C&AB\nrule=quiet:1:!c\n";
+
 static void test_unpacking(void)
 {
     uint64_t largest = FOUND(65535, 16);
@@ -96,6 +99,8 @@ static void test_other_models(void)
           "all kinds of rules: power is kept where it comes first, quiet and lamp are dropped where they come last");
     check(found(shared, ORDER(0, 1, 2), 4) && found(shared, ORDER(2, 0, 1), 3) && found(shared, ORDER(0, 2, 1), 4),
           "four properties: the set that remains holds for each");
+    check(found(power_up, ORDER(0, 1, 2, 3), 12) && found(power_up, ORDER(3, 2, 0, 1), 11) && found(power_up, ORDER(2, 3, 1, 0), 11),
+          "a start part: its rule is kept wherever it stands in the order");
 }
 
 static void test_not_orders(void)

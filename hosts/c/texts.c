@@ -1,10 +1,11 @@
 /*
  * texts COUNT: tests of what the header itself reads: how many rules an accepted text has, its full set and the names of its rules. Random models
- * with one to four properties are written here, so what is expected is known, and the library is asked whether it sees as many rules, whether MUST,
- * MAY and the irrelevant rules make up the full set, whether what is said of a set that is looked up in the two lists agrees with judging it,
- * whether what it says of a set jointly follows from what it says by each property, whether a set reaches the states of its trace and no state
- * that it does not reach with fewer rules, and whether each order finds a listed core and each listed core is found by an order. Each text stands
- * in a block of its own length, so that valgrind sees a byte too many; cut-off and damaged texts must do no harm.
+ * with one to four properties, and with start parts and without, are written here, so what is expected is known, and the library is asked whether it
+ * sees as many rules, whether MUST, MAY and the irrelevant rules make up the full set, whether what is said of a set that is looked up in the two
+ * lists agrees with judging it, whether what it says of a set jointly follows from what it says by each property, whether a set reaches the states of
+ * its trace and no state that it does not reach with fewer rules, whether the start parts of rules outside a set make no difference to it, and whether
+ * each order finds a listed core and each listed core is found by an order. Each text stands in a block of its own length, so that valgrind sees a byte
+ * too many; cut-off and damaged texts must do no harm.
  */
 #include <stdio.h>
 #include <stdlib.h>
@@ -38,9 +39,12 @@ static void random_name(char names[][CODREMIF_NAME_BYTES + 1], unsigned rule)
     }
 }
 
-/* A random model, its counts, the names of its rules, and the same model with each of its properties alone. */
+/*
+ * A random model, its counts, the names of its rules, the same model with each of its properties alone, and the same model with other start parts in
+ * the rules at odd places, or none.
+ */
 struct random_model {
-    struct model joint, by_property[CODREMIF_PROPERTIES];
+    struct model joint, by_property[CODREMIF_PROPERTIES], other_starts;
     unsigned rules, properties;
     char names[CODREMIF_RULES][CODREMIF_NAME_BYTES + 1];
 };
@@ -52,11 +56,25 @@ static const char *random_property(unsigned vars)
     return expressions[below(vars == 1 ? 3 : 6)];
 }
 
-static const char *random_rule(unsigned vars)
+static const char *random_step(unsigned vars)
 {
     static const char *const expressions[] = {"1",      "0",         "a",  "!A",  ">Aa", "=Aa",  "&A!a",
                                               "|!A!!a", "!!!!=!A!a", "!B", ">Bb", ">BA", ">B!A", "=Bb"};
     return expressions[below(vars == 1 ? 9 : 14)];
+}
+
+/* What follows the step part: every other rule has no start part. */
+static const char *random_start(unsigned vars)
+{
+    static const char *const parts[] = {":1", ":!a", ":!a", ":|a!a", ":a", ":!!!!!!a", ":!b", ":&!a!b", ":>ba"};
+    return below(2) ? "" : parts[below(vars == 1 ? 6 : 9)];
+}
+
+static void add_rule(struct model *model, const char *name, const char *step, const char *start)
+{
+    char parts[64];
+    snprintf(parts, sizeof parts, "%s%s", step, start);
+    model_named_rule(model, name, parts);
 }
 
 static void random_model(struct random_model *random)
@@ -73,12 +91,14 @@ static void random_model(struct random_model *random)
         else
             model_property(&random->joint, property);
     }
+    random->other_starts = random->joint;
     for (unsigned rule = 0; rule < random->rules; rule++) {
-        const char *expression = random_rule(vars);
+        const char *step = random_step(vars), *start = random_start(vars);
         random_name(random->names, rule);
-        model_named_rule(&random->joint, random->names[rule], expression);
+        add_rule(&random->joint, random->names[rule], step, start);
+        add_rule(&random->other_starts, random->names[rule], step, rule % 2 ? random_start(vars) : start);
         for (unsigned i = 0; i < random->properties; i++)
-            model_named_rule(&random->by_property[i], random->names[rule], expression);
+            add_rule(&random->by_property[i], random->names[rule], step, start);
     }
 }
 
@@ -312,6 +332,56 @@ static void test_random_reached(unsigned count)
     check(marked.more == 0, "random models: with a rule more a set reaches no state more");
 }
 
+/* What came up of models that differ in the start parts of rules at odd places, and what was wrong. */
+struct starts {
+    unsigned refused, unlike_text, at_once, unlike_full, unlike_trace, unlike_marks;
+};
+
+static int reaches(const struct model *model, uint32_t set, uint8_t marks[CODREMIF_MARK_BYTES], uint64_t *answer)
+{
+    uint8_t *text = copy(model->text, model->length);
+    memset(marks, 0, CODREMIF_MARK_BYTES);
+    *answer = codremif_reached(text, model->length, set, marks, CODREMIF_MARK_BYTES);
+    free(text);
+    return codremif_accepted(*answer);
+}
+
+static int same_trace(const struct judged *one, const struct judged *other)
+{
+    return one->length == other->length && memcmp(one->trace, other->trace, one->length) == 0;
+}
+
+/* The start parts of rules outside a set make no difference to it. */
+static void compare_starts(const struct random_model *random, struct starts *starts)
+{
+    uint32_t full = ((uint32_t)1 << random->rules) - 1, even = below(full + 1) & 0x5555;
+    struct judged one = judge(&random->joint, even), other = judge(&random->other_starts, even);
+    struct judged full_one = judge(&random->joint, full), full_other = judge(&random->other_starts, full);
+    uint8_t marks[CODREMIF_MARK_BYTES], other_marks[CODREMIF_MARK_BYTES];
+    uint64_t answer, other_answer;
+    int accepted = reaches(&random->joint, even, marks, &answer) && reaches(&random->other_starts, even, other_marks, &other_answer);
+    starts->refused += !one.accepted || !other.accepted || !full_one.accepted || !full_other.accepted || !accepted;
+    starts->unlike_text += random->joint.length != random->other_starts.length;
+    starts->at_once += one.length == 1;
+    starts->unlike_full += !same_trace(&full_one, &full_other);
+    starts->unlike_trace += !same_trace(&one, &other);
+    starts->unlike_marks += !accepted || answer != other_answer || memcmp(marks, other_marks, sizeof marks) != 0;
+}
+
+static void test_random_starts(unsigned count)
+{
+    struct starts starts = {0, 0, 0, 0, 0, 0};
+    for (unsigned i = 0; i < count; i++) {
+        struct random_model random;
+        random_model(&random);
+        compare_starts(&random, &starts);
+    }
+    check(starts.refused == 0 && starts.unlike_text > count / 2 && starts.at_once > count / 20 && starts.unlike_full > count / 50,
+          "random models: start parts are accepted, some sets start in a bad state, and other start parts make a difference to the full set");
+    check(starts.unlike_trace == 0, "random models: the start parts of rules outside a set make no difference to its trace");
+    check(starts.unlike_marks == 0, "random models: nor to the states that it reaches");
+}
+
 /* What came up of the cores that orders find in random models, and what was wrong. */
 struct found {
     unsigned cores, no_core, another, unlisted, not_counted, missed;
@@ -421,6 +491,7 @@ int main(int argc, char **argv)
     test_random_lookups(count);
     test_random_properties(count);
     test_random_reached(count);
+    test_random_starts(count);
     test_random_orders(count);
     test_other_texts();
     test_longest_names();

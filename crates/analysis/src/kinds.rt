@@ -32,11 +32,14 @@ pub fn kinds(text: &[u8], m: Model) -> Kinds
     requires { ⌜ Few m ⌝ }
     ensures { λ r. ⌜ r ≡ kindsOf (m .rules) (judge (described (now (text .entry)) m)) ⌝ }
 {
-    if m.vars <= 3 {
-        let mut masks = [0u16; 1024];
+    if m.vars <= 2 {
+        let mut masks = [0u16; 640];
+        kinds_with(text, m, &mut masks[..])
+    } else if m.vars <= 4 {
+        let mut masks = [0u16; 2176];
         kinds_with(text, m, &mut masks[..])
     } else {
-        let mut masks = [0u16; 16384];
+        let mut masks = [0u16; 16512];
         kinds_with(text, m, &mut masks[..])
     }
 }

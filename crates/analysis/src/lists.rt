@@ -70,11 +70,14 @@ pub fn list(text: &[u8], m: Model, which: WhichList, lent: &mut [u8]) -> Listed
     ensures { λ r. ⌜ r ≡ listedAnswer (listed which (m .rules) (judge (described (now (text .entry)) m))) (now (lent .entry)) ⌝ }
     ensures { λ _. ⌜ now (lent .exit) ≡ listedBytes (listed which (m .rules) (judge (described (now (text .entry)) m))) (now (lent .entry)) ⌝ }
 {
-    if m.vars <= 3 {
-        let mut masks = [0u16; 1024];
+    if m.vars <= 2 {
+        let mut masks = [0u16; 640];
+        list_with(text, m, which, &mut masks[..], lent)
+    } else if m.vars <= 4 {
+        let mut masks = [0u16; 2176];
         list_with(text, m, which, &mut masks[..], lent)
     } else {
-        let mut masks = [0u16; 16384];
+        let mut masks = [0u16; 16512];
         list_with(text, m, which, &mut masks[..], lent)
     }
 }

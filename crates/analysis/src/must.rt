@@ -20,11 +20,14 @@ pub fn must(text: &[u8], m: Model) -> u16
     requires { ⌜ Few m ⌝ }
     ensures { λ r. ⌜ r ≡ mustOf (m .rules) (judge (described (now (text .entry)) m)) ⌝ }
 {
-    if m.vars <= 3 {
-        let mut masks = [0u16; 1024];
+    if m.vars <= 2 {
+        let mut masks = [0u16; 640];
+        must_with(text, m, &mut masks[..])
+    } else if m.vars <= 4 {
+        let mut masks = [0u16; 2176];
         must_with(text, m, &mut masks[..])
     } else {
-        let mut masks = [0u16; 16384];
+        let mut masks = [0u16; 16512];
         must_with(text, m, &mut masks[..])
     }
 }

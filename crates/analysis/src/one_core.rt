@@ -24,11 +24,14 @@ pub fn one_core(text: &[u8], m: Model, order: &[u8]) -> OneCore
     requires { ⌜ IsOrder (m .rules) (now order) ⌝ }
     ensures { λ r. ⌜ r ≡ oneCoreOf (m .rules) (judge (described (now (text .entry)) m)) (now (order .entry)) ⌝ }
 {
-    if m.vars <= 3 {
-        let mut masks = [0u16; 1024];
+    if m.vars <= 2 {
+        let mut masks = [0u16; 640];
+        one_core_with(text, m, order, &mut masks[..])
+    } else if m.vars <= 4 {
+        let mut masks = [0u16; 2176];
         one_core_with(text, m, order, &mut masks[..])
     } else {
-        let mut masks = [0u16; 16384];
+        let mut masks = [0u16; 16512];
         one_core_with(text, m, order, &mut masks[..])
     }
 }

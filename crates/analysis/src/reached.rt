@@ -24,11 +24,14 @@ pub fn reached(text: &[u8], m: Model, set: u16) -> Reached
     requires { ⌜ set < 2 ^ m .rules ⌝ }
     ensures { λ r. ⌜ r ≡ reachedOf (systemOf (described (now (text .entry)) m) set) ⌝ }
 {
-    if m.vars <= 3 {
-        let mut masks = [0u16; 1024];
+    if m.vars <= 2 {
+        let mut masks = [0u16; 640];
+        reached_with(text, m, set, &mut masks[..])
+    } else if m.vars <= 4 {
+        let mut masks = [0u16; 2176];
         reached_with(text, m, set, &mut masks[..])
     } else {
-        let mut masks = [0u16; 16384];
+        let mut masks = [0u16; 16512];
         reached_with(text, m, set, &mut masks[..])
     }
 }

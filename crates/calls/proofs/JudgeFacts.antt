@@ -32,12 +32,12 @@ Gives text S lent answer bytes = (answer ≡ judgeAnswer text S lent) × (bytes 
 
 refused : (text : List ℕ) (S : ℕ) (lent : List ℕ) {number line : ℕ} → judgeOutcome text S lent ≡ Refused number line → Gives text S lent (JudgeRefused number line) lent
 unfolding judgeAnswer judgeBytes after
-refused text S lent e = (sym (given-refused JudgeRefused _ e), sym (given-refused _ _ e))
+refused text S lent e = (sym (given-refused JudgeRefused (verdictOf (systemIn text S)) e), sym (given-refused (λ number line. lent) (overwritten (traceIn text S) lent) e))
 
 accepted : (text : List ℕ) (S : ℕ) (lent : List ℕ) → judgeOutcome text S lent ≡ Accepted
     → Gives text S lent (verdictOf (systemIn text S)) (overwritten (traceIn text S) lent)
 unfolding judgeAnswer judgeBytes after
-accepted text S lent e = (sym (given-accepted JudgeRefused _ e), sym (given-accepted _ _ e))
+accepted text S lent e = (sym (given-accepted JudgeRefused (verdictOf (systemIn text S)) e), sym (given-accepted (λ number line. lent) (overwritten (traceIn text S) lent) e))
 
 -- a text that is refused
 pub by-text : (text : List ℕ) (S : ℕ) (lent : List ℕ) {number line : ℕ} → textOutcome text ≡ Refused number line → Gives text S lent (JudgeRefused number line) lent

@@ -32,7 +32,7 @@ Reaches text S lent answer bytes = (answer ≡ reachedAnswer text S lent) × (by
 not-reached : (text : List ℕ) (S : ℕ) (lent : List ℕ) {number line : ℕ} → reachedOutcome text S lent ≡ Refused number line
     → Reaches text S lent (ReachedRefused number line) lent
 unfolding reachedAnswer reachedBytes after
-not-reached text S lent e = (sym (given-refused ReachedRefused _ e), sym (given-refused _ _ e))
+not-reached text S lent e = (sym (given-refused ReachedRefused _ e), sym (given-refused (λ number line. lent) (overwritten (marksIn text S) lent) e))
 
 -- a text that is refused
 pub reached-by-text : (text : List ℕ) (S : ℕ) (lent : List ℕ) {number line : ℕ} → textOutcome text ≡ Refused number line

@@ -1,16 +1,16 @@
 -- The demands of the mission, as theorems about what exactly the calls answer and write. Nothing is assumed.
--- To believe them, read these files below crates/ in this order (lines without imports and blank lines, 1,704 in all). What is proved of their
+-- To believe them, read these files below crates/ in this order (lines without imports and blank lines, 1,811 in all). What is proved of their
 -- definitions stands in `Laws` and need not be read, and neither need the functions that compute (the reading of a text, the verdict, the lists):
 -- the theorems say what they give.
 --   a number as a set of rules or of letters           sets/specs/Bit                8
 --   expressions, their value and their written form    exprs/specs/Expr             42
 --   a number in base ten                               lines/specs/Decimal          10
---   bytes, and those of a name                         lines/specs/Bytes            41
---   a legal rule and its line                          lines/specs/Written          40
---   a model, when it is legal, its written form        models/specs/Written         74
+--   bytes, and those of a name                         lines/specs/Bytes            43
+--   a legal rule and its line                          lines/specs/Written          55
+--   a model, when it is legal, its written form        models/specs/Written         81
 --   how many property lines a text has                 models/specs/Properties      16
 --   accepted texts are exactly these                   models/specs/Accepted        34
---   when a text is refused: the numbers 1 to 9         models/specs/Refusals       106
+--   when a text is refused: the numbers 1 to 9         models/specs/Refusals       119
 --   the reading answers with the first that fits       models/specs/Refused         29
 --   runs, reached, holds, the trace                    systems/specs/System         51
 --   how many numbers below a bound pass a test         systems/specs/Count           6
@@ -18,7 +18,7 @@
 --   a list given entry by entry                        sets/specs/Tabulated          6
 --   the collecting of the reached states               searches/specs/Search        47
 --   what is to hold of it, for any system              searches/specs/Collecting    14
---   the transition system of a model and a set         semantics/specs/Meaning      34
+--   the transition system of a model and a set         semantics/specs/Meaning      51
 --   parts, sharing a rule, the order of a list         sets/specs/Sets              30
 --   cores and cuts of any judgement                    sets/specs/Cores             33
 --   the bytes of a list, and lent bytes                sets/specs/Lists             53
@@ -28,7 +28,7 @@
 --   an order of the rules                              sets/specs/Orders            22
 --   one core by an order, and how many judgements      sets/specs/OneCore           25
 --   what a set keeps of a list                         sets/specs/Kept               7
---   a model that is changed in rules or properties     models/specs/Changed         17
+--   a model that is changed in rules or properties     models/specs/Changed         35
 --   which list is meant, and which kind of rules       sorting/specs/Which          13
 --   what each call answers and writes                  calls/specs/Answers         117
 --   what finding one core answers                      preferences/specs/Answer     20
@@ -39,11 +39,12 @@
 --   demand 1 for a text                                codremif/specs/Demand1       75
 --   demand 2 for a text                                codremif/specs/Demand2       16
 --   demand 3 for a text                                codremif/specs/Demand3       89
---   rules that nobody relies on, for a text            codremif/specs/Relied        68
+--   rules that nobody relies on, for a text            codremif/specs/Relied        69
 --   the quick answer, for any lists and for a text's   codremif/specs/Suffices      64
 --   several properties together, for a text            codremif/specs/Properties    51
 --   the reached states of a set, for a text            codremif/specs/Reached       21
 --   one core by an order, for a text                   codremif/specs/OneCore       32
+--   rules that speak about power-up, for a text        codremif/specs/PowerUp       34
 --   the starred examples                               codremif/specs/Examples     112
 use Prim.Native.Nat.{ℕ, _^_, _<_}
 use mathlib.Core.Path.{_≡_}
@@ -63,6 +64,7 @@ use Rattle.codremif.specs.Suffices.{QuickAnswer, textByAnswers, textByHo
 use Rattle.codremif.specs.Properties.{SeveralProperties}
 use Rattle.codremif.specs.Reached.{EverythingReached}
 use Rattle.codremif.specs.OneCore.{InMyOrder, oneCoreByAnswers, oneCoreByHosts}
+use Rattle.codremif.specs.PowerUp.{PowerUp}
 use Rattle.codremif.specs.Laws.Written.{written-system}
 use Rattle.codremif.specs.Laws.Demand1.{calls-meet-demand1, hosts-meet-demand1}
 use Rattle.codremif.specs.Laws.Demand2.{judging-meets-demand2}
@@ -73,6 +75,7 @@ use Rattle.codremif.specs.Laws.Suffices.{the-quick-answer}
 use Rattle.codremif.specs.Laws.Properties.{calls-together, hosts-together}
 use Rattle.codremif.specs.Laws.Reached.{everything-is-reached}
 use Rattle.codremif.specs.Laws.OneCore.{calls-in-order, hosts-in-order}
+use Rattle.codremif.specs.Laws.PowerUp.{power-up-told}
 
 -- A text that is written from a legal model means what the model means: the runs of each set of rules are the model's.
 pub meaning : (M : Described) → Legal M → (S : ℕ) → systemIn (writtenModel M) S ≡ systemOf M S
@@ -134,3 +137,8 @@ one-core-in-my-order = calls-in-order
 -- The same of the exported calls, by their 64-bit answers and their lent bytes.
 pub one-core-in-my-order-hosts : (text : List ℕ) → textOutcome text ≡ Accepted → InMyOrder textByHosts oneCoreByHosts text
 one-core-in-my-order-hosts = hosts-in-order
+
+-- Rules that speak about power-up: for every accepted text, which states a set starts in and what judging it then answers, that a missing start part counts
+-- as `1`, and that a text without start parts means what it meant.
+pub rules-about-power-up : (text : List ℕ) → textOutcome text ≡ Accepted → PowerUp text
+rules-about-power-up = power-up-told

@@ -11,4 +11,5 @@ pub mod Telling
 pub mod Properties
 pub mod Reached
 pub mod OneCore
+pub mod PowerUp
 pub mod Examples

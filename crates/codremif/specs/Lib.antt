@@ -10,5 +10,6 @@ pub mod Suffices
 pub mod Properties
 pub mod Reached
 pub mod OneCore
+pub mod PowerUp
 pub mod Laws
 pub mod Demands

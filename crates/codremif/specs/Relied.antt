@@ -5,11 +5,12 @@ use mathlib.Core.Path.{_≡_}
 use mathlib.Core.Logic.{_↔_}
 use mathlib.Core.Bool.{true, false}
 use mathlib.Core.List.{List, [], map}
+use mathlib.Core.Option.{Option}
 use Rattle.sets.specs.Bit.{has, full}
 use Rattle.sets.specs.Demand3.{_∈_}
 use Rattle.sets.specs.Kinds.{Sorted}
 use Rattle.exprs.specs.Expr.{Expr}
-use Rattle.lines.specs.Written.{LegalExpr}
+use Rattle.lines.specs.Written.{LegalExpr, LegalStart}
 use Rattle.models.specs.declared.model.Outcome.the-variants.{Accepted}
 use Rattle.models.specs.Written.{Described, Legal, namesOf, writtenModel, modelIn}
 use Rattle.models.specs.Changed.{keeping, replacing}
@@ -81,14 +82,14 @@ pub record Reducible (text : List ℕ) : Type 0 where
 
 -- ---- a rule outside MUST
 
--- The expression of rule i can be replaced by e.
-pub record Replaceable (text : List ℕ) (i : ℕ) (e : Expr) : Type 0 where
-  -- The model with that rule's expression replaced is legal.
-  pub legal : Legal (replacing i e (modelIn text))
+-- The step part and the start part of rule i can be replaced by these.
+pub record Replaceable (text : List ℕ) (i : ℕ) (step : Expr) (start : Option Expr) : Type 0 where
+  -- The model with that rule's parts replaced is legal.
+  pub legal : Legal (replacing i step start (modelIn text))
   -- Its written form is accepted.
-  pub accepted : textOutcome (writtenModel (replacing i e (modelIn text))) ≡ Accepted
+  pub accepted : textOutcome (writtenModel (replacing i step start (modelIn text))) ≡ Accepted
   -- Judging all rules of its written form answers that they hold, whatever bytes are lent.
-  pub holds : (lent : List ℕ) → let text′ = writtenModel (replacing i e (modelIn text)) in judgeAnswer text′ (full (rulesIn text′)) lent ≡ Holds
+  pub holds : (lent : List ℕ) → let text′ = writtenModel (replacing i step start (modelIn text)) in judgeAnswer text′ (full (rulesIn text′)) lent ≡ Holds
 
 -- ---- all of it
 
@@ -96,6 +97,7 @@ pub record Relied (text : List ℕ) : Type 0 where
   pub kinds : SortedRules text
   -- "Where some rule is in a core, leaving out every irrelevant rule gives a model with the same cores by name."
   pub reducible : (i : ℕ) → InOneOf (listIn Cores text) i → Reducible text
-  -- "If the property holds, replacing the expression of one rule outside MUST by any legal one leaves it holding."
-  pub replaceable : (lent : List ℕ) → judgeAnswer text (full (rulesIn text)) lent ≡ Holds
-      → (i : ℕ) → i < rulesIn text → has (kindIn Must text) i ≡ false → (e : Expr) → LegalExpr (modelIn text .vars) true e → Replaceable text i e
+  -- "If the property holds, replacing the expression of one rule outside MUST by any legal one leaves it holding": the step part, the start part, or both; a
+  -- start part may be added or left out.
+  pub replaceable : (lent : List ℕ) → judgeAnswer text (full (rulesIn text)) lent ≡ Holds → (i : ℕ) → i < rulesIn text → has (kindIn Must text) i ≡ false
+      → (step : Expr) → LegalExpr (modelIn text .vars) true step → (start : Option Expr) → LegalStart (modelIn text .vars) start → Replaceable text i step start

@@ -89,7 +89,7 @@ pub extern "C" fn codremif_witness(set: u32, cores: &[u8], cuts: &[u8]) -> u64
 // Which version of the part this is, as CODREMIF_VERSION of the header says it.
 #[no_mangle]
 pub extern "C" fn codremif_version() -> u64
-    ensures { λ r. ⌜ r ≡ versionNumber 1 5 0 ⌝ }
+    ensures { λ r. ⌜ r ≡ versionNumber 1 6 0 ⌝ }
 {
-    1005000
+    1006000
 }

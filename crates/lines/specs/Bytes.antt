@@ -10,7 +10,7 @@ use Rattle.exprs.specs.declared.token.Token.{Token}
 use Rattle.exprs.specs.declared.token.Token.the-variants.{Constant, Now, Next, Not, And, Or, Implies, Alike, Other}
 use Rattle.exprs.specs.Token.{tokenOf}
 use Rattle.lines.specs.declared.classes.Class.{Class}
-use Rattle.lines.specs.declared.classes.Class.the-variants.{InLine, InName, InExpression, Allowed}
+use Rattle.lines.specs.declared.classes.Class.the-variants.{InLine, InName, InPart, InExpression, Allowed, InExpressionOf}
 
 -- the bytes of a text in ASCII
 abbrev pub bytes : String → List ℕ
@@ -45,12 +45,14 @@ allowed n capitals Implies = true
 allowed n capitals Alike = true
 allowed n capitals Other = true
 
--- a line ends before its byte 10; a name has a-z and 0-9; an expression has the bytes of expressions
+-- a line ends before its byte 10; a name has a-z and 0-9; a part of a rule ends before the next `:`; an expression has the bytes of expressions
 unfoldable pub belongs : Class → ℕ → Bool
 belongs InLine b = not (eqb b 10)
 belongs InName b = (leb 97 b && leb b 122) || (leb 48 b && leb b 57)
+belongs InPart b = not (eqb b 58)
 belongs InExpression b = isToken (tokenOf b)
 belongs (Allowed n capitals) b = allowed n capitals (tokenOf b)
+belongs (InExpressionOf n capitals) b = isToken (tokenOf b) && allowed n capitals (tokenOf b)
 
 -- how many bytes at the start of s are in the class
 unfoldable pub prefix : Class → List ℕ → ℕ

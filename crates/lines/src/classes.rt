@@ -3,12 +3,15 @@ ghost use mathlib.Core.Path.{_≡_};
 ghost use Rattle.lines.specs.Bytes.{belongs, prefix, isToken, allowed};
 use exprs::token::Token;
 
-// The bytes that a line, a name and an expression have, and those that an expression of so many letters may have.
+// The bytes that a line, a name, a part of a rule and an expression have; those that the letters of a model allow; and those that both an expression has
+// and the letters allow, so that a legal expression is gone over once.
 pub enum Class {
     InLine,
     InName,
+    InPart,
     InExpression,
     Allowed(usize, bool),
+    InExpressionOf(usize, bool),
 }
 
 fn is_token(t: Token) -> bool
@@ -50,9 +53,14 @@ fn in_class(c: Class, b: u8) -> bool
     match c {
         Class::InLine => b != 10,
         Class::InName => (b'a' <= b) & (b <= b'z') | (b'0' <= b) & (b <= b'9'),
+        Class::InPart => b != b':',
         Class::InExpression => is_token(exprs::token::classify(b)),
         Class::Allowed(letters, capitals) => {
             is_allowed(letters, capitals, exprs::token::classify(b))
+        }
+        Class::InExpressionOf(letters, capitals) => {
+            let t = exprs::token::classify(b);
+            is_token(t) & is_allowed(letters, capitals, t)
         }
     }
 }

@@ -28,10 +28,10 @@ pub fn fault_in(vars: usize, capitals: bool, e: &[u8]) -> u8
     if 64 < n {
         return 5;
     }
-    if crate::classes::prefix_of(Class::InExpression, e) != n {
-        return 6;
-    }
-    if crate::classes::prefix_of(Class::Allowed(vars, capitals), e) != n {
+    if crate::classes::prefix_of(Class::InExpressionOf(vars, capitals), e) != n {
+        if crate::classes::prefix_of(Class::InExpression, e) != n {
+            return 6;
+        }
         return 7;
     }
     if is_one(e) { 0 } else { 8 }

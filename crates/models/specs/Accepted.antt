@@ -43,8 +43,8 @@ told-back M l = sym (found-is-described (writtenModel M) M (readModel (writtenMo
 pub one-model : (M N : Described) → Legal M → Legal N → writtenModel M ≡ writtenModel N → M ≡ N
 one-model M N l k q = sym (told-back M l) ∙ ap modelIn q ∙ told-back N k
 
--- "A legal model now has at most 1,630 bytes."
-pub legal-length : (M : Described) → Legal M → length (writtenModel M) ≤ 1630
+-- "A legal model now has at most 2,670 bytes."
+pub legal-length : (M : Described) → Legal M → length (writtenModel M) ≤ 2670
 unfolding size
 legal-length M l =
     let l₁ : List ℕ = line varsKey (decimal (M .vars)) in

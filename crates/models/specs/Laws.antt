@@ -7,6 +7,7 @@ pub mod Rules
 pub mod Properties
 pub mod Written
 pub mod Grounds
+pub mod Parts
 pub mod Fitting
 pub mod Refusals
 pub mod Numbers

@@ -1,6 +1,6 @@
 -- Texts at which two numbers of document 01 fit, in one table: the reading answers with the one that comes first, and the other fits as well. Each
 -- number has a text where a later one fits too, and one where an earlier one does; nothing that concerns the text comes after 9. The last rows have
--- more than one property line (document 02). The theorem is in `Refused`: it is computed from the texts as printed here. Assumes nothing: these are definitions.
+-- more than one property line, or start parts (document 02). The theorem is in `Refused`: it is computed from the texts as printed here. Assumes nothing: these are definitions.
 use Prim.Native.Nat.{ℕ}
 use mathlib.Core.Path.{_≡_}
 use mathlib.Core.List.{List, [], _∷_, _++_}
@@ -99,6 +99,78 @@ overlaps =
       line = 6;
       other = 9;
       otherLine = 7;
+    }
+    -- 4 and 5, on one line: a name twice, and no byte behind the `:` of its start part
+    ∷ record {
+      text = endedLines ("vars=2" ∷ "rules=2" ∷ "init=a" ∷ "prop=a" ∷ "rule=r:A" ∷ "rule=r:A:" ∷ []);
+      number = 4;
+      line = 6;
+      other = 5;
+      otherLine = 6;
+    }
+    -- 5 and 8, on one line: a start part of no byte is no expression either
+    ∷ record {
+      text = endedLines ("vars=2" ∷ "rules=1" ∷ "init=a" ∷ "prop=a" ∷ "rule=r:A:" ∷ []);
+      number = 5;
+      line = 5;
+      other = 8;
+      otherLine = 5;
+    }
+    -- 5 and 6, on one line: a start part of 65 bytes, of which one is other than those of expressions
+    ∷ record {
+      text = endedLines ("vars=2" ∷ "rules=1" ∷ "init=a" ∷ "prop=a" ∷ "rule=r:A:!!!!!!!!!!!!!!!!!!!!!!!!!!!!!!!!!!!!!!!!!!!!!!!!!!!!!!!!!!!!!!!!h" ∷ []);
+      number = 5;
+      line = 5;
+      other = 6;
+      otherLine = 5;
+    }
+    -- 6 and 7, on one line: a third `:`, and a capital letter before it
+    ∷ record {
+      text = endedLines ("vars=2" ∷ "rules=1" ∷ "init=a" ∷ "prop=a" ∷ "rule=r:A:A:a" ∷ []);
+      number = 6;
+      line = 5;
+      other = 7;
+      otherLine = 5;
+    }
+    -- 6 and 8, on one line: a third `:` is no part of an expression
+    ∷ record {
+      text = endedLines ("vars=2" ∷ "rules=1" ∷ "init=a" ∷ "prop=a" ∷ "rule=r:A:a:a" ∷ []);
+      number = 6;
+      line = 5;
+      other = 8;
+      otherLine = 5;
+    }
+    -- 7 and 8, on one line: a capital letter in a start part that is two expressions
+    ∷ record {
+      text = endedLines ("vars=2" ∷ "rules=1" ∷ "init=a" ∷ "prop=a" ∷ "rule=r:A:AA" ∷ []);
+      number = 7;
+      line = 5;
+      other = 8;
+      otherLine = 5;
+    }
+    -- 7 and 8, on one line: both of the step part, though its start part has no byte
+    ∷ record {
+      text = endedLines ("vars=2" ∷ "rules=1" ∷ "init=a" ∷ "prop=a" ∷ "rule=r:&C:" ∷ []);
+      number = 7;
+      line = 5;
+      other = 8;
+      otherLine = 5;
+    }
+    -- 8 and 3: a start part comes before a later line, whatever its number
+    ∷ record {
+      text = endedLines ("vars=2" ∷ "rules=2" ∷ "init=a" ∷ "prop=a" ∷ "rule=r:A:aa" ∷ "rule=R:A" ∷ []);
+      number = 8;
+      line = 5;
+      other = 3;
+      otherLine = 6;
+    }
+    -- 8 and 9: a fault in the start part of the last rule line, and bytes behind it
+    ∷ record {
+      text = endedLines ("vars=2" ∷ "rules=1" ∷ "init=a" ∷ "prop=a" ∷ "rule=r:A:&a" ∷ "" ∷ []);
+      number = 8;
+      line = 5;
+      other = 9;
+      otherLine = 6;
     }
     ∷ []
 

@@ -36,4 +36,5 @@ placesByProperty j m = record {
   props = getD (m .props) j 0 ∷ 0 ∷ 0 ∷ 0 ∷ [];
   names = m .names;
   steps = m .steps;
+  starts = m .starts;
 }

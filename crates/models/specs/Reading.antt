@@ -32,11 +32,11 @@ behindLine p bytes = record { at = p .at + bytes; line = p .line + 1 }
 
 -- before the first property line
 unfoldable pub noneRead : LineStart → Progress
-noneRead p = record { number = 0; place = p; props = replicate 4 0; names = replicate 16 0; steps = replicate 16 0 }
+noneRead p = record { number = 0; place = p; props = replicate 4 0; names = replicate 16 0; steps = replicate 16 0; starts = replicate 16 0 }
 
 -- where the line that is due is refused
 unfoldable pub withFault : Progress → ℕ → Progress
-withFault r number = record { number = number; place = r .place; props = r .props; names = r .names; steps = r .steps }
+withFault r number = record { number = number; place = r .place; props = r .props; names = r .names; steps = r .steps; starts = r .starts }
 
 -- what the next line gives, unless an earlier one was refused
 unfoldable pub unlessRefused : Progress → Progress → Progress
@@ -46,7 +46,7 @@ unlessRefused r next = cond (eqb (r .number) 0) next r
 
 -- with property j, which stands at this place, before a line at the place p
 unfoldable pub withProperty : Progress → ℕ → ℕ → LineStart → Progress
-withProperty r j at p = record { number = 0; place = p; props = set (r .props) j at; names = r .names; steps = r .steps }
+withProperty r j at p = record { number = 0; place = p; props = set (r .props) j at; names = r .names; steps = r .steps; starts = r .starts }
 
 -- what a line gives for property j
 unfoldable pub propertied : ℕ → Progress → Line → Progress
@@ -69,7 +69,14 @@ propertiesRead text n p (suc j) = nextProperty text n j (propertiesRead text n p
 
 -- with rule i, whose parts stand at these places, before a line at the place p
 unfoldable pub withRule : Progress → ℕ → RuleParts → LineStart → Progress
-withRule r i parts p = record { number = 0; place = p; props = r .props; names = set (r .names) i (parts .name); steps = set (r .steps) i (parts .step) }
+withRule r i parts p = record {
+  number = 0;
+  place = p;
+  props = r .props;
+  names = set (r .names) i (parts .name);
+  steps = set (r .steps) i (parts .step);
+  starts = set (r .starts) i (parts .start);
+}
 
 -- what a line gives for rule i
 unfoldable pub ruled : ℕ → Progress → RuleLine → Progress
@@ -96,7 +103,32 @@ rulesRead text n r (suc i) = nextRule text n i (rulesRead text n r i)
 unfoldable pub refusedReading : ℕ → ℕ → Reading
 refusedReading number line = record {
   outcome = Refused number line;
-  model = record { vars = 0; rules = 0; init = 0; properties = 0; props = replicate 4 0; names = replicate 16 0; steps = replicate 16 0 };
+  model = record {
+    vars = 0;
+    rules = 0;
+    init = 0;
+    properties = 0;
+    props = replicate 4 0;
+    names = replicate 16 0;
+    steps = replicate 16 0;
+    starts = replicate 16 0;
+  };
+}
+
+-- an accepted text has its parts where they were found
+abbrev pub acceptedReading : (vars rules init properties : ℕ) → Progress → Reading
+acceptedReading vars rules init properties r = record {
+  outcome = Accepted;
+  model = record {
+    vars = vars;
+    rules = rules;
+    init = init;
+    properties = properties;
+    props = r .props;
+    names = r .names;
+    steps = r .steps;
+    starts = r .starts;
+  };
 }
 
 -- what follows a line at the place p, unless it is refused
@@ -117,10 +149,7 @@ finished text vars rules init properties r =
     cond (eqb (r .number) 0)
     (cond (ltb (r .place .at) (length text))
     (refusedReading 9 (r .place .line))
-    (record {
-      outcome = Accepted;
-      model = record { vars = vars; rules = rules; init = init; properties = properties; props = r .props; names = r .names; steps = r .steps };
-    }))
+    (acceptedReading vars rules init properties r))
     (refusedReading (r .number) (r .place .line))
 
 -- the reading of a text

@@ -1,18 +1,19 @@
 -- When a text is refused: the numbers 1 to 9 as document 01, "When a call is turned away", lists them, each with the lines where it fits, and the
 -- one that comes first. `Rattle.models.specs.Refused` shows that the reading answers with this one. From document 01, "The model text" and
--- "When a call is turned away", and document 02, "Several properties together". Assumes nothing: these are definitions.
+-- "When a call is turned away", and document 02, "Several properties together" and "Rules that speak about power-up". Assumes nothing: these are definitions.
 use Prim.Native.Nat.{ℕ, zero, suc, _+_, _-_, _≤_, _<_}
 use mathlib.Core.Path.{_≡_}
 use mathlib.Core.Logic.{_≢_, _⊎_}
 use mathlib.Core.Bool.{Bool, true, false}
 use mathlib.Core.List.{List, [], _∷_, _++_, List·Memᴰ}
+use mathlib.Core.Option.{Option, none, some}
 use lib.ListN.{length, drop}
 use Rattle.exprs.specs.Expr.{Expr, written, Letters}
 use Rattle.lines.specs.declared.classes.Class.the-variants.{InName}
 use Rattle.lines.specs.Bytes.{bytes}
 use Rattle.lines.specs.Decimal.{decimal}
 use Rattle.lines.specs.Lines.{varsKey, rulesKey, initKey, propKey, ruleKey, all}
-use Rattle.lines.specs.Written.{Within}
+use Rattle.lines.specs.Written.{Within, LegalExpr}
 use Rattle.models.specs.Properties.{afterLine, propertyCount}
 
 -- ---- the lines of a text
@@ -88,10 +89,25 @@ pub record HasName (text : List ℕ) (k : ℕ) (name e : List ℕ) : Type 0 wher
   pub proper : ProperName name
   pub value : HasValue text k ruleKey (name ++ 58 ∷ e)
 
--- e stands in line k where an expression is due, in `init` and `prop` without and in a rule with capital letters.
+-- What stands behind a name's `:` is a step part alone, or a step part, a second `:` and a start part. A step part has no `:`.
+pub data HasParts (e step : List ℕ) : Option (List ℕ) → Type 0 where
+  step-alone : ¬ List·Memᴰ 58 step → e ≡ step → HasParts e step none
+  step-and-start : {start : List ℕ} → ¬ List·Memᴰ 58 step → e ≡ step ++ 58 ∷ start → HasParts e step (some start)
+
+-- The step part has passed: it is the written form of a legal expression, in which capital letters are allowed.
+pub record StepPassed (text step : List ℕ) : Type 0 where
+  pub n : ℕ
+  pub count : IsN text n
+  pub expression : Expr
+  pub legal : LegalExpr n true expression
+  pub is : step ≡ written expression
+
+-- e stands in line k where an expression is due: in `init`, in `prop` and in a start part without capital letters, in a step part with them. "A bad start
+-- part is refused by 5 to 8 after the step part has passed."
 pub data Expression (text : List ℕ) : ℕ → Bool → List ℕ → Type 0 where
   of-state : {k : ℕ} {key e : List ℕ} → StateLine text k key → HasValue text k key e → Expression text k false e
-  of-rule : {k : ℕ} {name e : List ℕ} → HasName text k name e → Expression text k true e
+  of-step : {k : ℕ} {name e step : List ℕ} {start : Option (List ℕ)} → HasName text k name e → HasParts e step start → Expression text k true step
+  of-start : {k : ℕ} {name e step start : List ℕ} → HasName text k name e → HasParts e step (some start) → StepPassed text step → Expression text k false start
 
 -- `a` to `g` and `A` to `G`
 abbrev pub smallLetters : List ℕ
@@ -123,7 +139,7 @@ pub data FitsAt (text : List ℕ) : (number line : ℕ) → Type 0 where
   -- 6. "It has a byte other than `0`, `1`, `!`, `&`, `|`, `>`, `=`, a to g and A to G."
   byte-other : {k : ℕ} {capitals : Bool} {e : List ℕ} {b : ℕ} → Expression text k capitals e → List·Memᴰ b e
       → ¬ List·Memᴰ b expressionBytes → FitsAt text 6 k
-  -- 7. "It has a letter beyond the first N, or a capital letter in `init` or `prop`."
+  -- 7. "It has a letter beyond the first N, or a capital letter in `init` or `prop`", or in a start part.
   letter-beyond : {k : ℕ} {capitals : Bool} {e : List ℕ} {b n : ℕ} → Expression text k capitals e → IsN text n → List·Memᴰ b e
       → List·Memᴰ b (drop n smallLetters ++ drop n capitalLetters) → FitsAt text 7 k
   letter-capital : {k : ℕ} {e : List ℕ} {b : ℕ} → Expression text k false e → List·Memᴰ b e → List·Memᴰ b capitalLetters → FitsAt text 7 k

@@ -1,7 +1,7 @@
--- A model as document 01, "The model text", describes it: what it consists of, when it is legal, its written form, and the model that a text
+-- A model as document 01, "The model text", and document 02 describe it: what it consists of, when it is legal, its written form, and the model that a text
 -- tells. `Rattle.models.specs.Accepted` shows that the reading accepts exactly the written forms of legal models.
 -- Assumes nothing: these are definitions.
-use Prim.Native.Nat.{ℕ, _<_}
+use Prim.Native.Nat.{ℕ, zero, suc, _<_}
 use mathlib.Core.Logic.{_≢_}
 use mathlib.Core.Bool.{false}
 use mathlib.Core.List.{List, [], _++_, map, flatMap}
@@ -33,7 +33,7 @@ propertyAt props j = getD props j (constant false)
 
 -- the rule at place i, where the first has place 0
 abbrev pub ruleAt : List Rule → ℕ → Rule
-ruleAt rules i = getD rules i (record { name = []; step = constant false })
+ruleAt rules i = getD rules i (record { name = []; step = constant false; start = none })
 
 -- the names of the rules in a set, in the model's order
 unfoldable pub namesOf : Described → ℕ → List (List ℕ)
@@ -86,10 +86,18 @@ unfoldable pub propertyIn : List ℕ → Model → ℕ → Expr
 unfolding exprAt
 propertyIn text m j = exprAt text (getD (m .props) j 0)
 
+-- the start part that begins so many bytes behind the place of a step part; none where the number is 0
+unfoldable pub startAt : List ℕ → ℕ → ℕ → Option Expr
+unfolding exprAt
+startAt text step zero = none
+startAt text step (suc bytes) = some (exprAt (drop step text) (suc bytes))
+
 -- the rule i of a text whose parts stand at the places m
 unfoldable pub ruleIn : List ℕ → Model → ℕ → Rule
-unfolding nameOf exprAt
-ruleIn text m i = record { name = nameOf text (m .names) (m .steps) i; step = exprAt text (getD (m .steps) i 0) }
+unfolding nameOf exprAt startAt
+ruleIn text m i =
+    let step = getD (m .steps) i 0 in
+    record { name = nameOf text (m .names) (m .steps) i; step = exprAt text step; start = startAt text step (getD (m .starts) i 0) }
 
 -- the model of a text whose parts stand at the places m
 unfoldable pub described : List ℕ → Model → Described

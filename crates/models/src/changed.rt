@@ -12,6 +12,7 @@ pub fn by_property(m: Model, j: usize) -> Model
     let places = m.props;
     let names = m.names;
     let steps = m.steps;
+    let starts = m.starts;
     Model {
         vars: m.vars,
         rules: m.rules,
@@ -20,5 +21,6 @@ pub fn by_property(m: Model, j: usize) -> Model
         props: [places[j], 0, 0, 0],
         names,
         steps,
+        starts,
     }
 }

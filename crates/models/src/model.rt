@@ -5,8 +5,9 @@ use crate::progress::LineStart;
 use crate::progress::Progress;
 use lines::line::Line;
 
-// A model, by where its parts stand in the text: N, R and how many properties there are, the expression of `init`, that of each property, and
-// the name and the expression of each rule. Places of properties and rules that the model lacks are 0.
+// A model, by where its parts stand in the text: N, R and how many properties there are, the expression of `init`, that of each property, the name
+// and the step part of each rule, and how many bytes behind the first of the step part its start part begins, 0 where it has none. Places of
+// properties and rules that the model lacks are 0.
 pub struct Model {
     pub vars: usize,
     pub rules: usize,
@@ -15,6 +16,7 @@ pub struct Model {
     pub props: [usize; 4],
     pub names: [usize; 16],
     pub steps: [usize; 16],
+    pub starts: [u8; 16],
 }
 
 // Whether a text is a model, or the number that refuses it and the line.
@@ -42,6 +44,7 @@ fn refuse(number: u8, line: usize) -> Reading
             props: [0; 4],
             names: [0; 16],
             steps: [0; 16],
+            starts: [0; 16],
         },
     }
 }
@@ -67,6 +70,7 @@ fn finish(
     let props = r.props;
     let names = r.names;
     let steps = r.steps;
+    let starts = r.starts;
     Reading {
         outcome: Outcome::Accepted,
         model: Model {
@@ -77,6 +81,7 @@ fn finish(
             props,
             names,
             steps,
+            starts,
         },
     }
 }

@@ -16,6 +16,7 @@ pub struct Progress {
     pub props: [usize; 4],
     pub names: [usize; 16],
     pub steps: [usize; 16],
+    pub starts: [u8; 16],
 }
 
 // The place behind a line of so many bytes.
@@ -37,11 +38,13 @@ pub(crate) fn with_fault(r: Progress, number: u8) -> Progress
     let props = r.props;
     let names = r.names;
     let steps = r.steps;
+    let starts = r.starts;
     Progress {
         number,
         place,
         props,
         names,
         steps,
+        starts,
     }
 }

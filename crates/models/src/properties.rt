@@ -34,12 +34,14 @@ fn with_property(r: Progress, j: usize, at: usize, place: LineStart) -> Progress
     props[j] = at;
     let names = r.names;
     let steps = r.steps;
+    let starts = r.starts;
     Progress {
         number: 0,
         place,
         props,
         names,
         steps,
+        starts,
     }
 }
 
@@ -80,6 +82,7 @@ pub(crate) fn property_lines(
         props: [0; 4],
         names: [0; 16],
         steps: [0; 16],
+        starts: [0; 16],
     };
     let mut j = 0;
     while j < properties {

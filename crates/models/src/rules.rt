@@ -18,12 +18,15 @@ fn with_rule(r: Progress, i: usize, parts: RuleParts, place: LineStart) -> Progr
     names[i] = parts.name;
     let mut steps = r.steps;
     steps[i] = parts.step;
+    let mut starts = r.starts;
+    starts[i] = parts.start;
     Progress {
         number: 0,
         place,
         props,
         names,
         steps,
+        starts,
     }
 }
 

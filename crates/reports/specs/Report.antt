@@ -42,4 +42,4 @@ reportOf text = reportOn (textOutcome text) (modelIn text)
 
 -- the part of an input that is judged
 unfoldable pub judgedPart : List ℕ → List ℕ
-judgedPart input = take 2048 input
+judgedPart input = take 4096 input

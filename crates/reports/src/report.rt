@@ -13,7 +13,7 @@ use pages::page::Printed;
 use sorting::which::WhichList;
 
 // So many bytes of the input are judged, and no more.
-pub const INPUT_BYTES: usize = 2048;
+pub const INPUT_BYTES: usize = 4096;
 
 fn refusal(number: u8, line: usize, p: Place, page: &mut [u8]) -> Place
     ensures { λ r. ⌜ pageOf r (now (page .exit)) ≡ put (refusalReport number line) (pageOf p (now (page .entry))) ⌝ }

@@ -2,19 +2,18 @@
 // none once every state is reached.
 ghost use mathlib.Core.Path.{_≡_};
 ghost use mathlib.Core.List.{[]};
-ghost use Prim.Native.Nat.{_≤_};
 ghost use lib.ListN.{getD};
 ghost use Rattle.searches.specs.Search.{startsBelow, tryRow, search};
-ghost use Rattle.systems.specs.ByTables.{markAt, stepBy, HasRoom, systemBy};
+ghost use Rattle.systems.specs.ByTables.{stepBy, startBy, HasRoom, systemBy};
 ghost use Rattle.searches.specs.Stored.{runsIn, collectionIn, Stores, Triable, reachedOf};
 use crate::runs::Reached;
 use crate::runs::Runs;
 use systems::tables::Tables;
 
-// The start states are marked, by number.
-fn find_starts(t: Tables) -> Runs
-    requires { ⌜ t .states ≤ 128 ⌝ }
-    ensures { λ r. ⌜ Stores (record { runs = startsBelow (markAt (t .start)) (t .states); pairs = 0 }) r ⌝ }
+// The start states of the set are marked, by number. The start parts that they meet stand in the row behind those of the states.
+fn find_starts(masks: &[u16], t: Tables, set: u16) -> Runs
+    requires { ⌜ HasRoom (now masks) t ⌝ }
+    ensures { λ r. ⌜ Stores (record { runs = startsBelow (startBy (now (masks .entry)) t set) (t .states); pairs = 0 }) r ⌝ }
 {
     let mut x = Runs {
         marks: [false; 128],
@@ -23,9 +22,10 @@ fn find_starts(t: Tables) -> Runs
         parents: [0; 128],
         pairs: 0,
     };
+    let row = 128 * t.states;
     let mut s = 0;
     while s < t.states {
-        if t.start[s] {
+        if t.init[s] & ((masks[row + s] & set) == set) {
             x = crate::runs::mark(x, 128, s);
         }
         s += 1;
@@ -33,8 +33,8 @@ fn find_starts(t: Tables) -> Runs
     x
 }
 
-// The last state of the run at place i is tried as the first of a pair with every state, by number, until every state is reached. The masks have the
-// rows of the states alone, so it has to be one of them.
+// The last state of the run at place i is tried as the first of a pair with every state, by number, until every state is reached. The masks have rows
+// of pairs for the states alone, so it has to be one of them.
 fn try_row(masks: &[u16], states: usize, set: u16, i: usize, x: Runs) -> Runs
     requires { ⌜ Triable (now masks) states i x ⌝ }
     ensures { λ r.
@@ -61,7 +61,7 @@ pub(crate) fn explore(masks: &[u16], t: Tables, set: u16) -> Runs
     requires { ⌜ HasRoom (now masks) t ⌝ }
     ensures { λ r. ⌜ Stores (search (systemBy (now (masks .entry)) t set)) r ⌝ }
 {
-    let mut x = find_starts(t);
+    let mut x = find_starts(masks, t, set);
     let mut i = 0;
     while i < x.count {
         if x.count == t.states {

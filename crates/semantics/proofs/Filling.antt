@@ -13,7 +13,7 @@ use lib.ListN.{length, take, drop, set, replicate, length-append, length-drop, l
 use lib.Seq.{length-take-le, take-at, drop-at, drop-drop}
 use Rattle.sets.specs.Tabulated.{tabulate}
 use Rattle.sets.specs.Laws.Tabulated.{length-tabulate, tabulated, same-entries, next-stored, in-parts, part-stored, below-next, none-marked, next-marked}
-use Rattle.semantics.specs.TablesOf.{marksOf, entryOf, pairsOf}
+use Rattle.semantics.specs.TablesOf.{marksOf, rowEntry, rowsOf}
 use Rattle.semantics.specs.Laws.TablesOf.{entry-at}
 
 -- ---- the marks
@@ -76,26 +76,26 @@ module _ (f : ℕ → ℕ) (row₀ row : List ℕ) (t : ℕ) (h : FilledTo f row
 
 module _ (before : List ℕ) (n : ℕ) (f : ℕ → ℕ → ℕ) where
   -- Before the first row every entry is as it was.
-  pub no-pairs : before ≡ pairsOf before 0 n f
-  unfolding pairsOf entryOf
-  no-pairs = tabulated (length before) (entryOf before 0 n f) 0 before refl (λ k _. rw (le-ltb (k / 128) 0 zero-le))
+  pub no-rows : before ≡ rowsOf before 0 n f
+  unfolding rowsOf rowEntry
+  no-rows = tabulated (length before) (rowEntry before 0 n f) 0 before refl (λ k _. rw (le-ltb (k / 128) 0 zero-le))
 
   -- One row more keeps the entries outside of it.
-  entry-kept : (s k : ℕ) → (k % 128 < n → k / 128 ≢ s) → entryOf before s n f k ≡ entryOf before (s + 1) n f k
-  unfolding entryOf
+  entry-kept : (s k : ℕ) → (k % 128 < n → k / 128 ≢ s) → rowEntry before s n f k ≡ rowEntry before (s + 1) n f k
+  unfolding rowEntry
   entry-kept s k other = go (ltb (k % 128) n) refl
     where
-      go : (b : Bool) → ltb (k % 128) n ≡ b → entryOf before s n f k ≡ entryOf before (s + 1) n f k
+      go : (b : Bool) → ltb (k % 128) n ≡ b → rowEntry before s n f k ≡ rowEntry before (s + 1) n f k
       go true e = rw (below-next (k / 128) s (other (ltb-true (k % 128) n e)))
       go false e = simp (e, and-false)
 
   -- A row is stored in the part of the table that is lent for it.
   pub one-row : (s : ℕ) → 128 * s + n ≤ length before → n ≤ 128
-      → putMid (128 * s) n (pairsOf before s n f) (tabulate n (f s)) ≡ pairsOf before (s + 1) n f
-  unfolding pairsOf
+      → putMid (128 * s) n (rowsOf before s n f) (tabulate n (f s)) ≡ rowsOf before (s + 1) n f
+  unfolding rowsOf
   one-row s room few =
-      ap (putMid (128 * s) n (pairsOf before s n f))
-      (same-entries n (f s) (λ t. entryOf before (s + 1) n f (128 * s + t)) (λ t l. sym (entry-at before (s + 1) n f s t (omega arith) l few)))
-      ∙ part-stored (128 * s) n (length before) (entryOf before s n f) (entryOf before (s + 1) n f) room
+      ap (putMid (128 * s) n (rowsOf before s n f))
+      (same-entries n (f s) (λ t. rowEntry before (s + 1) n f (128 * s + t)) (λ t l. sym (entry-at before (s + 1) n f s t (omega arith) l few)))
+      ∙ part-stored (128 * s) n (length before) (rowEntry before s n f) (rowEntry before (s + 1) n f) room
       (λ k l. entry-kept s k (λ _ e. omega arith))
       (λ k l. entry-kept s k (λ t e. omega arith))

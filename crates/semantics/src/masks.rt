@@ -1,4 +1,4 @@
-// The masks of the pairs of states: for each pair the set of the rules that it meets.
+// The masks of the pairs of states: for each pair the set of the rules whose step part it meets.
 ghost use mathlib.Core.Path.{_≡_};
 ghost use mathlib.Core.Bool.{_&&_};
 ghost use Prim.Native.Nat.{_+_, _*_, _/_, _%_, _≤_, _<_, min};
@@ -7,10 +7,10 @@ ghost use lib.ListN.{length, getD};
 ghost use Rattle.sets.specs.Bit.{has};
 ghost use Rattle.sets.specs.Gathered.{setOf};
 ghost use Rattle.sets.specs.Tabulated.{tabulate};
-ghost use Rattle.semantics.specs.TablesOf.{pairsOf};
-ghost use Rattle.semantics.specs.Places.{maskBy, wordTable, RuleEntries, FromState, Fillable, AllFillable};
+ghost use Rattle.semantics.specs.TablesOf.{rowsOf};
+ghost use Rattle.semantics.specs.Places.{maskBy, maskRowBy, wordTable, RuleEntries, FromState, Fillable, AllFillable};
 
-// The words of all rules, which stand at the places `steps` of the text. These are lent: the model by value would be copied for each row.
+// The words of all step parts, which stand at the places `steps` of the text. These are lent: the model by value would be copied for each row.
 fn rule_words(text: &[u8], steps: &[usize; 16], rules: usize, s: usize, block: usize) -> [u64; 16]
     requires { ⌜ RuleEntries (now steps) rules ⌝ }
     ensures { λ r. ⌜ r ≡ wordTable (now (text .entry)) (now (steps .entry)) s block rules ⌝ }
@@ -121,18 +121,19 @@ fn fill_row(text: &[u8], steps: &[usize; 16], rules: usize, s: usize, row: &mut 
     }
 }
 
-// The masks of all pairs of states, that of (s, t) at 128 * s + t. The caller lends the room for them, which may be shorter for small models:
-// an array by value would be copied, and every entry cleared first.
+// The masks of all pairs of states, that of (s, t) at 128 * s + t, and behind their rows one with the start masks, so that a judgement is lent both as one
+// slice. The caller lends the room for them, which may be shorter for small models: an array by value would be copied, and every entry cleared first.
 pub(crate) fn fill_masks(
     text: &[u8],
     steps: &[usize; 16],
+    starts: &[u8; 16],
     rules: usize,
     states: usize,
     masks: &mut [u16],
 )
-    requires { ⌜ AllFillable (now steps) rules states (now masks) ⌝ }
+    requires { ⌜ AllFillable (now steps) (now starts) rules states (now masks) ⌝ }
     ensures { λ _.
-        ⌜ now (masks .exit) ≡ pairsOf (now (masks .entry)) states states (maskBy (now (text .entry)) (now (steps .entry)) rules) ⌝ }
+        ⌜ now (masks .exit) ≡ rowsOf (now (masks .entry)) (states + 1) states (maskRowBy (now (text .entry)) (now (steps .entry)) (now (starts .entry)) rules states) ⌝ }
 {
     let mut s = 0;
     while s < states {
@@ -141,4 +142,6 @@ pub(crate) fn fill_masks(
         fill_row(text, steps, rules, s, &mut masks[from..to]);
         s += 1;
     }
+    let from = 128 * states;
+    crate::starts::fill_starts(text, steps, starts, rules, &mut masks[from..from + states]);
 }

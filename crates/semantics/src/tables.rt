@@ -51,15 +51,16 @@ pub fn fill(text: &[u8], m: Model, masks: &mut [u16]) -> Tables
 {
     let states = state_count(m.vars);
     let steps = m.steps;
-    crate::masks::fill_masks(text, &steps, m.rules, states, masks);
-    let init = [m.init];
+    let starts = m.starts;
+    crate::masks::fill_masks(text, &steps, &starts, m.rules, states, masks);
+    let places = [m.init];
     let props = m.props;
-    let start = marks_of(text, &init[..], states, true);
+    let init = marks_of(text, &places[..], states, true);
     let bad = marks_of(text, &props[..m.properties], states, false);
     Tables {
         rules: m.rules,
         states,
-        start,
+        init,
         bad,
     }
 }

@@ -26,7 +26,7 @@ use Rattle.systems.specs.Verdict.{holds}
 use Rattle.systems.specs.Laws.Holds.{holds-iff}
 use Rattle.systems.specs.declared.tables.Tables.{Tables}
 use Rattle.sets.specs.Next.{NextFrom, NextAny}
-use Rattle.systems.specs.ByTables.{markAt, stepBy, systemBy, judgeBy}
+use Rattle.systems.specs.ByTables.{markAt, stepBy, startBy, systemBy, judgeBy}
 use Rattle.verdicts.specs.Marks.{markOf, hasBits, anyWith, isOpen, FirstMarks, RowMarked, RowWalked}
 
 -- ---- one mark
@@ -168,10 +168,11 @@ pub record Spread (M : System) (marks : List ℕ) : Type 0 where
   pub good : (s : ℕ) → s < M .size → walked s ≡ true → M .bad s ≡ false
   pub closed : (s t : ℕ) → s < M .size → t < M .size → walked s ≡ true → M .step s t ≡ true → reached t ≡ true
 
-pub spread-first : (masks : List ℕ) (tables : Tables) (set : ℕ) {marks : List ℕ} → FirstMarks tables marks → Spread (systemBy masks tables set) marks
+pub spread-first : (masks : List ℕ) (tables : Tables) (set : ℕ) {marks : List ℕ} → FirstMarks masks tables set marks
+    → Spread (systemBy masks tables set) marks
 unfolding systemBy
 spread-first masks tables set f = record {
-  reached = markAt (tables .start);
+  reached = startBy masks tables set;
   walked = λ _. false;
   size = f .size;
   at = f .at;
@@ -295,8 +296,8 @@ module _ (masks : List ℕ) (tables : Tables) (rules s : ℕ) {before after : Li
 -- ---- the judgement
 
 -- No state is bad.
-pub none-bad : (masks : List ℕ) (tables : Tables) (rules : ℕ) {marks : List ℕ} → FirstMarks tables marks → anyWith 4 (tables .states) marks ≡ false
-    → judgeBy masks tables rules ≡ true
+pub none-bad : (masks : List ℕ) (tables : Tables) (rules : ℕ) {marks : List ℕ} → FirstMarks masks tables rules marks
+    → anyWith 4 (tables .states) marks ≡ false → judgeBy masks tables rules ≡ true
 unfolding anyWith judgeBy systemBy
 none-bad masks tables rules {marks} f none = holds-iff M .1 (record { good = λ s r. good s (subst (λ t. t < M .size) (r .ends) (walk-last (r .path) (r .run))) })
   where
@@ -305,7 +306,7 @@ none-bad masks tables rules {marks} f none = holds-iff M .1 (record { good = λ 
 
     good : (s : ℕ) → s < M .size → M .bad s ≡ false
     good s h =
-        sym (bits-say (markAt (tables .start) s) false (markAt (tables .bad) s) .bad)
+        sym (bits-say (startBy masks tables rules s) false (markAt (tables .bad) s) .bad)
         ∙ ap (hasBits 4) (sym (f .at s h))
         ∙ eq-false-of-not-eq-true (λ e. true≢false (sym (any-intro (tables .states) (λ t. hasBits 4 (getD marks t 0)) s h e) ∙ none))
 

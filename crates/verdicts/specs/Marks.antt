@@ -10,7 +10,7 @@ use lib.Dec.{eqb}
 use lib.ListN.{length, getD, set}
 use Rattle.systems.specs.Least.{any}
 use Rattle.systems.specs.declared.tables.Tables.{Tables}
-use Rattle.systems.specs.ByTables.{markAt, stepBy}
+use Rattle.systems.specs.ByTables.{markAt, stepBy, startBy}
 
 -- The mark of a state.
 unfoldable pub markOf : (reached walked bad : Bool) → ℕ
@@ -29,10 +29,10 @@ anyWith bits states marks = any states (λ t. hasBits bits (getD marks t 0))
 unfoldable pub isOpen : ℕ → Bool
 isOpen m = eqb (bitAnd m 3) 1
 
--- The start states are reached.
-pub record FirstMarks (t : Tables) (marks : List ℕ) : Type 0 where
+-- The start states of the set are reached.
+pub record FirstMarks (masks : List ℕ) (t : Tables) (rules : ℕ) (marks : List ℕ) : Type 0 where
   pub size : length marks ≡ 128
-  pub at : (s : ℕ) → s < t .states → getD marks s 0 ≡ markOf (markAt (t .start) s) false (markAt (t .bad) s)
+  pub at : (s : ℕ) → s < t .states → getD marks s 0 ≡ markOf (startBy masks t rules s) false (markAt (t .bad) s)
 
 -- Marks of states with a step of the set are added, by a row of masks.
 pub record RowMarked (row : List ℕ) (rules : ℕ) (before after : List ℕ) : Type 0 where

@@ -1,6 +1,6 @@
 // The verdict alone, with no trace, by a search in any order. What is known of a state stands in one number: 1 for a reached state, 2 for one
 // whose row has been walked, 4 for a bad one. No row is walked twice, and the marks are lent from walk to walk.
-ghost use Prim.Native.Nat.{_≤_, _<_};
+ghost use Prim.Native.Nat.{_≤_};
 ghost use mathlib.Core.Path.{_≡_};
 ghost use lib.ListN.{length, getD};
 ghost use Rattle.sets.specs.Next.{NextFrom, NextAny};
@@ -8,15 +8,17 @@ ghost use Rattle.systems.specs.ByTables.{HasRoom, judgeBy};
 ghost use Rattle.verdicts.specs.Marks.{FirstMarks, RowMarked, Walkable, RowWalked, anyWith, isOpen};
 use systems::tables::Tables;
 
-// The start states are reached, and no row has been walked.
-fn first_marks(t: Tables) -> [u16; 128]
-    requires { ⌜ t .states ≤ 128 ⌝ }
-    ensures { λ r. ⌜ FirstMarks t r ⌝ }
+// The start states of the set are reached, and no row has been walked. The start parts that they meet stand in the row behind those of the states. No
+// branch, so that the compiler can take several states at a time.
+fn first_marks(masks: &[u16], t: Tables, set: u16) -> [u16; 128]
+    requires { ⌜ HasRoom (now masks) t ⌝ }
+    ensures { λ r. ⌜ FirstMarks (now (masks .entry)) t set r ⌝ }
 {
     let mut marks = [0u16; 128];
+    let row = 128 * t.states;
     let mut s = 0;
     while s < t.states {
-        marks[s] = t.start[s] as u16 | (t.bad[s] as u16) << 2;
+        marks[s] = (t.init[s] & ((masks[row + s] & set) == set)) as u16 | (t.bad[s] as u16) << 2;
         s += 1;
     }
     marks
@@ -93,7 +95,7 @@ pub fn is_held(masks: &[u16], t: Tables, set: u16) -> bool
     requires { ⌜ HasRoom (now masks) t ⌝ }
     ensures { λ r. ⌜ r ≡ judgeBy (now (masks .entry)) t set ⌝ }
 {
-    let mut marks = first_marks(t);
+    let mut marks = first_marks(masks, t, set);
     if !any_with(&marks, t.states, 4) {
         return true;
     }

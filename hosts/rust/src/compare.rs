@@ -12,6 +12,7 @@ use crate::plain::lookup;
 use crate::plain::one_core::one_core;
 use crate::plain::system::TransitionSystem;
 use crate::plain::text;
+use crate::plain::trace::trace;
 use crate::random::written::Written;
 
 /// A text with what the plain search reads of it.
@@ -176,6 +177,33 @@ impl Tally {
         answered
     }
 
+    /// A text that the plain reader accepts, in all calls: these sets, the lists and the kinds of rules, each with just as many
+    /// bytes lent as it needs, with more of them, and with one too few where it needs some; and the order, first rule first and
+    /// last rule first, and with a byte too many.
+    pub fn accepted_text(&mut self, text: &[u8], plain: &Answers, sets: &[u16], order: &[u8], fill: Fill) {
+        let system = &plain.system;
+        for set in sets {
+            let states_of_trace = trace(system, *set).map_or(0, |run| run.len());
+            for length in lengths_around(states_of_trace) {
+                let _ = self.judge(text, plain, u32::from(*set), length, fill);
+            }
+            for length in lengths_around(system.states) {
+                let _ = self.reached(text, Ok(system), u32::from(*set), length, fill);
+            }
+        }
+        for length in lengths_around(2 * plain.cores.len()) {
+            let _ = self.cores(text, plain, length, fill);
+        }
+        for length in lengths_around(2 * plain.cuts.len()) {
+            let _ = self.cuts(text, plain, length, fill);
+        }
+        self.kinds(text, plain);
+        let the_other_way: Vec<u8> = order.iter().rev().copied().collect();
+        for order in [order, &the_other_way, &[order, &[0]].concat()] {
+            let _ = self.one_core(text, Ok(system), &Guarded::new(order, fill), fill);
+        }
+    }
+
     /// A text that the plain reader refuses: all calls must refuse it alike. Those that are given a set are asked with set 0,
     /// with a set too large for any model and with no byte lent, because the text comes before 10 and 11; and the one that is
     /// given an order with bytes that are one, and that are none for any model, because it comes before 13, too.
@@ -196,6 +224,11 @@ impl Tally {
         self.ask_set("MAY", text, calls::may, Err(expected));
         self.ask_set("irrelevant", text, calls::irrelevant, Err(expected));
     }
+}
+
+/// Just enough, some more, and one too few if that can be.
+fn lengths_around(needed: usize) -> impl Iterator<Item = usize> {
+    [Some(needed), Some(needed + 3), needed.checked_sub(1)].into_iter().flatten()
 }
 
 /// Where a witness stands in the list that holds it; none if it has no bytes. Panics where it is no part of the list, or a

@@ -5,6 +5,7 @@
 //!   table with the library: it evaluates every rule for every pair of states, judges every rule set, and takes the
 //!   cores and cuts by their definition. It collects the reached states and finds one core as the request says it, and looks a
 //!   set up by going over the lists.
+//! * [`everything`] has what the library says of a text, so that it can be held to what it says of another.
 //! * [`judgements`] counts the judgements of a list call, for the bench.
 //! * [`program`] runs the report program.
 //! * [`random`] makes models, damaged texts, lists and orders from a seed.
@@ -18,6 +19,7 @@
 pub mod answer;
 pub mod calls;
 pub mod compare;
+pub mod everything;
 pub mod handed;
 pub mod judgements;
 pub mod lent;

@@ -1,5 +1,5 @@
-//! Every example at the edges that the request lists, and examples of several properties, of reached states and of one core
-//! worked out by hand, asked of the library and of the plain search.
+//! Every example at the edges that the request lists, and examples of several properties, of reached states, of one core and
+//! of start parts worked out by hand, asked of the library and of the plain search.
 
 #![deny(warnings)]
 
@@ -162,7 +162,7 @@ fn expect_odd(cores: &[u8], cuts: &[u8]) {
     }
 }
 
-/// A text with one bit and one rule.
+/// A text with one bit and one rule, which may have a start part behind a `:`.
 fn one_bit(init: &str, prop: &str, rule: &str) -> String {
     format!("vars=1\nrules=1\ninit={init}\nprop={prop}\nrule=r:{rule}\n")
 }
@@ -477,6 +477,174 @@ fn without_a_core_every_rule_is_irrelevant() {
     let rules: String = (0..16).map(|rule| format!("rule=r{rule}:1\n")).collect();
     let sixteen = format!("vars=1\nrules=16\ninit=!a\nprop=!a\n{rules}");
     expect_lists(&sixteen, &[], &[0], Kinds(0, 0, 65_535));
+}
+
+/// Tremor that may start in any state, and a rule that it starts quiet, for which it has no step part.
+const POWER_UP: &str = "vars=3\nrules=4\ninit=1\nprop=>c&ab\nrule=ra:>CA\nrule=rb:>CB\nrule=vote:>C&AB\n\
+                        rule=quiet:1:!c\n";
+
+/// Without `quiet` the unit rings at once, in state 4; with it each set is judged as in Tremor.
+#[test]
+fn a_rule_that_speaks_about_power_up() {
+    expect_judged(
+        POWER_UP,
+        &[
+            (0, Some(&[4])),
+            (3, Some(&[4])),
+            (7, Some(&[4])),
+            (8, Some(&[0, 4])),
+            (9, Some(&[0, 5])),
+            (10, Some(&[0, 6])),
+            (11, None),
+            (12, None),
+            (15, None),
+        ],
+    );
+    expect_lists(POWER_UP, &[12, 11], &[8, 5, 6], Kinds(8, 7, 0));
+    expect_reached(
+        POWER_UP,
+        &[
+            (0, &[1; 8], 0),
+            (7, &[1; 8], 0),
+            (8, &[1; 8], 8),
+            (9, &[1, 1, 1, 1, 0, 1, 0, 1], 6 * 8),
+            (15, &[1, 1, 1, 1, 0, 0, 0, 1], 5 * 8),
+        ],
+    );
+    expect_found(POWER_UP, &[0, 1, 2, 3], 12);
+    expect_found(POWER_UP, &[3, 2, 0, 1], 11);
+}
+
+/// The same start part in `vote`: now `ra` and `rb` do not suffice, and nobody relies on them.
+#[test]
+fn a_start_part_and_a_step_part_in_one_rule() {
+    let text = tremor_with(2, "init=1").replace("vote:>C&AB", "vote:>C&AB:!c");
+    expect_judged(&text, &[(0, Some(&[4])), (3, Some(&[4])), (4, None), (7, None)]);
+    expect_lists(&text, &[4], &[4], Kinds(4, 0, 3));
+    expect_found(&text, &[2, 1, 0], 4);
+}
+
+/// One rule is relied on for its start part, the other for its step part.
+#[test]
+fn the_start_states_of_each_set() {
+    let text = "vars=1\nrules=2\ninit=1\nprop=!a\nrule=on:1:!a\nrule=keep:>Aa\n";
+    expect_judged(text, &[(0, Some(&[1])), (1, Some(&[0, 1])), (2, Some(&[1])), (3, None)]);
+    expect_reached(text, &[(0, &[1, 1], 0), (1, &[1, 1], 2), (2, &[1, 1], 0), (3, &[1, 0], 2)]);
+    expect_lists(text, &[3], &[1, 2], Kinds(3, 0, 0));
+    expect_found(text, &[0, 1], 3);
+    expect_judged(&one_bit("1", "!a", ">Aa:!a"), &[(0, Some(&[1])), (1, None)]);
+    expect_lists(&one_bit("1", "!a", ">Aa:!a"), &[1], &[1], Kinds(1, 0, 0));
+}
+
+/// A start state meets `init` and the start parts of all the rules in the set.
+#[test]
+fn init_and_every_start_part() {
+    let beside_init = "vars=2\nrules=1\ninit=!b\nprop=!b\nrule=r:=Bb:!a\n";
+    expect_judged(beside_init, &[(0, Some(&[0, 2])), (1, None)]);
+    expect_reached(beside_init, &[(0, &[1; 4], 4), (1, &[1, 1, 0, 0], 8)]);
+    let two = "vars=2\nrules=2\ninit=1\nprop=0\nrule=r:0:!a\nrule=s:0:!b\n";
+    expect_judged(two, &[(0, Some(&[0])), (1, Some(&[0])), (2, Some(&[0])), (3, Some(&[0]))]);
+    let four =
+        [(0, &[1, 1, 1, 1][..], 0), (1, &[1, 0, 1, 0], 8), (2, &[1, 1, 0, 0], 8), (3, &[1, 0, 0, 0], 4)];
+    expect_reached(two, &four);
+    // No rule alone keeps every state from being a start state.
+    let contradictory = "vars=1\nrules=2\ninit=1\nprop=0\nrule=r:1:a\nrule=s:1:!a\n";
+    expect_judged(contradictory, &[(0, Some(&[0])), (1, Some(&[1])), (2, Some(&[0])), (3, None)]);
+    expect_reached(contradictory, &[(1, &[1, 1], 1), (2, &[1, 1], 2), (3, &[0, 0], 0)]);
+    expect_lists(contradictory, &[3], &[1, 2], Kinds(3, 0, 0));
+    expect_lists(&one_bit("1", "0", "1:0"), &[1], &[1], Kinds(1, 0, 0));
+    expect_lists(&one_bit("0", "0", "1:0"), &[0], &[], Kinds(0, 0, 1));
+    expect_lists(&one_bit("1", "a", "1:!a"), &[], &[0], Kinds(0, 0, 1));
+}
+
+/// A start part is asked of the first state of a run alone: later the counter comes to states that do not meet it.
+#[test]
+fn a_start_part_and_later_states() {
+    let counter = "vars=2\nrules=2\ninit=1\nprop=!&ab\nrule=low:=A!a:&!a!b\nrule=high:=B!=ba\n";
+    let expected = [(0, Some(&[3][..])), (1, Some(&[0, 3])), (2, Some(&[3])), (3, Some(&[0, 1, 2, 3]))];
+    expect_judged(counter, &expected);
+    expect_reached(
+        counter,
+        &[(0, &[1; 4], 0), (1, &[1; 4], 4 + 3), (2, &[1; 4], 0), (3, &[1; 4], 4 + 4 + 4)],
+    );
+    expect_lists(counter, &[], &[0], Kinds(0, 0, 3));
+}
+
+/// A missing start part counts as `1`.
+#[test]
+fn a_start_part_that_says_nothing() {
+    for start in [":1", ":!c", ":|a!a", ":>00"] {
+        let text = TREMOR.replace("CA\n", &format!("CA{start}\n")).replace("CB\n", &format!("CB{start}\n"));
+        expect_judged(
+            &text,
+            &[(0, Some(&[0, 4])), (1, Some(&[0, 5])), (2, Some(&[0, 6])), (3, None), (4, None)],
+        );
+        expect_lists(&text, &[4, 3], &[5, 6], Kinds(0, 7, 0));
+        expect_reached(&text, &[(0, &[1; 8], 8), (1, &[1, 1, 1, 1, 0, 1, 0, 1], 6 * 8)]);
+        expect_found(&text, &[2, 0, 1], 3);
+    }
+}
+
+/// By 5 to 8 after the step part has passed, whatever number either has.
+#[test]
+fn refused_start_parts() {
+    let longest = "!".repeat(63) + "a";
+    let refused = |rule: &str, reason| expect_refused(&one_bit("1", "1", rule), reason, 5);
+    expect_accepted(&one_bit("1", "1", &format!("{longest}:{longest}")));
+    refused("1:", Reason::ExpressionLength);
+    refused(&format!("1:!{longest}"), Reason::ExpressionLength);
+    refused(&format!("1:{longest}:"), Reason::ExpressionLength);
+    for start in ["a:", "a:1", ":", ":a", "A:", "aa:", "h", " a", "a\r", "A2"] {
+        refused(&format!("1:{start}"), Reason::Byte);
+    }
+    for start in ["A", "b", "B", "!A", "&aA", "AA", "bb", "g"] {
+        refused(&format!("1:{start}"), Reason::Letter);
+    }
+    for start in ["aa", "&a", "!", "10", "=a"] {
+        refused(&format!("1:{start}"), Reason::NotOne);
+    }
+    for start in ["", "A", "a:", "aa", "a", &format!("!{longest}")] {
+        refused(&format!(":{start}"), Reason::ExpressionLength);
+        refused(&format!("!{longest}:{start}"), Reason::ExpressionLength);
+        refused(&format!("h:{start}"), Reason::Byte);
+        refused(&format!("b:{start}"), Reason::Letter);
+        refused(&format!("aa:{start}"), Reason::NotOne);
+        refused(&format!("&A:{start}"), Reason::NotOne);
+    }
+}
+
+/// What comes before the step part and after the start part.
+#[test]
+fn other_numbers_beside_a_start_part() {
+    for start in ["", "A", "a:", "aa", "a"] {
+        expect_refused(&tremor_with(5, &format!("rule=ra:1:{start}")), Reason::NameTwice, 6);
+        expect_refused(&tremor_with(5, &format!("rule=:1:{start}")), Reason::Name, 6);
+        expect_refused(&tremor_with(5, &format!("rule=ninebytes:1:{start}")), Reason::Name, 6);
+        let without_end = one_bit("1", "1", &format!("1:{start}"));
+        expect_refused(&without_end[..without_end.len() - 1], Reason::LineDue, 5);
+    }
+    expect_refused(&(one_bit("1", "1", "1:a") + "\n"), Reason::BytesFollow, 6);
+    expect_refused(&tremor_with(3, "prop=>c&ab:1"), Reason::Byte, 4);
+    expect_refused(&tremor_with(2, "init=!c:1"), Reason::Byte, 3);
+}
+
+/// Two counts, `init`, four properties and 16 rules at their longest.
+#[test]
+fn the_longest_text() {
+    let longest = "!".repeat(63) + "a";
+    let rule = |place: usize| format!("rule=rule{place:04}:{longest}:{longest}\n");
+    let rules: String = (0..16).map(rule).collect();
+    let states = format!("init={longest}\n{}", format!("prop={longest}\n").repeat(4));
+    let text = format!("vars=7\nrules=16\n{states}{rules}");
+    assert_eq!(text.len(), 2_670);
+    expect_accepted(&text);
+    expect_refused(&text.replace("rule0015:", "rule0015:!"), Reason::ExpressionLength, 23);
+    expect_refused(&text.replace(":!!!", ":!!!!"), Reason::ExpressionLength, 8);
+    let mut longer_start_part = text.clone();
+    longer_start_part.insert(text.rfind(':').expect("a start part") + 1, '!');
+    expect_refused(&longer_start_part, Reason::ExpressionLength, 23);
+    expect_refused(&(text.clone() + "\n"), Reason::BytesFollow, 24);
+    expect_refused(&text[..text.len() - 1], Reason::LineDue, 23);
 }
 
 #[test]

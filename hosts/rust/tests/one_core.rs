@@ -19,7 +19,7 @@ use codremif_host::random::generator::seed_for;
 use codremif_host::random::models::model;
 use codremif_host::random::orders::{order, with_fault, Fault};
 use codremif_host::random::properties::PropertyCounts;
-use codremif_host::random::written::{join, later, literal, Written};
+use codremif_host::random::written::{join, later, literal, Written, WrittenRule};
 use codremif_host::random::Random;
 
 /// What came up, so that a test can demand that everything did.
@@ -271,6 +271,7 @@ fn eight_pairs() -> Written {
         let bits: Vec<String> = (0..4).map(|bit| literal(later(bit), number >> bit & 1 == 1)).collect();
         join('&', &bits)
     };
-    let rules = (0..16).map(|rule| (format!("r{rule}"), format!("!{}", state(8 + rule / 2)))).collect();
+    let forbidding = |rule: usize| format!("!{}", state(8 + rule / 2));
+    let rules = (0..16).map(|rule| WrittenRule::new(format!("r{rule}"), forbidding(rule))).collect();
     Written { bits: 4, init: "!d".to_string(), properties: vec!["!d".to_string()], rules }
 }

@@ -4,9 +4,9 @@
 
 #![deny(warnings)]
 
-use codremif_host::answer::{OneCore, Reached, Verdict};
 use codremif_host::calls;
 use codremif_host::compare::show;
+use codremif_host::everything::{self, reached, Everything};
 use codremif_host::plain::answers::Answers;
 use codremif_host::plain::sets::minimal;
 use codremif_host::plain::trace::trace;
@@ -38,11 +38,7 @@ impl Side for Library {
     }
 
     fn trace(&self, set: u16) -> Option<Vec<u8>> {
-        let mut lent = [0; 128];
-        match calls::judge(&self.text, u32::from(set), &mut lent).expect("an accepted model") {
-            Verdict::Holds => None,
-            Verdict::Broken { length } => Some(lent[..length].to_vec()),
-        }
+        everything::trace(&self.text, set)
     }
 
     fn cores(&self) -> Vec<u16> {
@@ -222,40 +218,6 @@ fn the_same_states_reached_by_each_property() {
     assert!(properties.fewest() >= 500, "{properties:?}");
 }
 
-/// The library's answer and marks.
-fn reached(text: &[u8], set: u16) -> (Reached, Vec<u8>) {
-    let mut marks = vec![0; calls::MARK_BYTES];
-    let answer = calls::reached(text, u32::from(set), &mut marks);
-    (answer.expect("an accepted model"), marks)
-}
-
-/// What the library says of a text: of some sets their traces, and everything else.
-#[derive(Debug, PartialEq, Eq)]
-struct Said {
-    traces: Vec<Option<Vec<u8>>>,
-    cores: Vec<u16>,
-    cuts: Vec<u16>,
-    must: u16,
-    may: u16,
-    irrelevant: u16,
-    one_core: OneCore,
-}
-
-impl Said {
-    fn of(text: &[u8], sets: &[u16], order: &[u8]) -> Said {
-        let library = Library::of(text);
-        Said {
-            traces: sets.iter().map(|set| library.trace(*set)).collect(),
-            cores: library.cores(),
-            cuts: calls::listed(calls::cuts, text).expect("an accepted model"),
-            must: calls::must(text).expect("an accepted model"),
-            may: calls::may(text).expect("an accepted model"),
-            irrelevant: calls::irrelevant(text).expect("an accepted model"),
-            one_core: calls::one_core(text, order).expect("an accepted model"),
-        }
-    }
-}
-
 /// The library says the same of other texts that mean the same: with one property that is the conjunction, with the
 /// properties in another order, and with one of them again.
 #[test]
@@ -266,7 +228,7 @@ fn the_same_in_other_words() {
         let written = small_model(&mut random);
         let sets = [0, full_set(&written), random_set(&mut random) & full_set(&written)];
         let order = order(&mut random, written.rules.len());
-        let said = Said::of(&written.text(), &sets, &order);
+        let said = Everything::of(&written.text(), &sets, &order);
         for (count, properties) in [
             (&mut conjunctions, vec![join('&', &written.properties)]),
             (&mut orders, written.properties.iter().rev().cloned().collect()),
@@ -275,7 +237,7 @@ fn the_same_in_other_words() {
             let is_model = properties.len() <= 4 && properties.iter().all(|property| property.len() <= 64);
             if is_model && properties != written.properties {
                 let other = written.with_properties(properties).text();
-                let of_other = Said::of(&other, &sets, &order);
+                let of_other = Everything::of(&other, &sets, &order);
                 assert_eq!(of_other, said, "{}; {}", show(&other), show(&written.text()));
                 *count += 1;
             }

@@ -1,5 +1,5 @@
-//! Random accepted models with one to four properties: verdicts, traces, cores, cuts, MUST, MAY and irrelevant rules of the
-//! library against the plain search.
+//! Random accepted models with one to four properties, with start parts and without: verdicts, traces, cores, cuts, MUST, MAY
+//! and irrelevant rules of the library against the plain search.
 
 #![deny(warnings)]
 
@@ -11,6 +11,7 @@ use codremif_host::plain::sets::minimal;
 use codremif_host::plain::trace::trace;
 use codremif_host::random::generator::seed_for;
 use codremif_host::random::properties::PropertyCounts;
+use codremif_host::random::start_parts::StartPartCounts;
 use codremif_host::random::{models, Random};
 
 /// How many models there are for each R of a test, for N from 1 to 7. A call's time grows with 4^N, so the small models
@@ -40,6 +41,7 @@ fn small_models_with_every_set_judged() {
     assert!(seen.all_kinds >= 200 && seen.irrelevant_beside_core >= 2000, "{seen:?}");
     assert!(seen.properties.fewest() >= 4000 && seen.properties.several() >= 10_000, "{seen:?}");
     assert!(seen.trace_by_another >= 20_000, "{seen:?}");
+    assert!(seen.start_parts.fewest() >= 3000 && seen.start_parts.none >= 8000, "{seen:?}");
 }
 
 #[test]
@@ -48,6 +50,7 @@ fn middling_models_with_a_sample_of_sets_judged() {
     assert!(seen.many_cores >= 100, "{seen:?}");
     assert!(seen.contradictory >= 50 && seen.no_start >= 50 && seen.no_successor >= 50, "{seen:?}");
     assert!(seen.properties.fewest() >= 400 && seen.trace_by_another >= 1000, "{seen:?}");
+    assert!(seen.start_parts.fewest() >= 250, "{seen:?}");
 }
 
 #[test]
@@ -56,6 +59,7 @@ fn large_models_with_a_sample_of_sets_judged() {
     assert!(seen.many_cores >= 100, "{seen:?}");
     assert!(seen.contradictory >= 10 && seen.no_start >= 10 && seen.no_successor >= 10, "{seen:?}");
     assert!(seen.properties.fewest() >= 80 && seen.trace_by_another >= 200, "{seen:?}");
+    assert!(seen.start_parts.fewest() >= 50, "{seen:?}");
 }
 
 /// A binary counter that counts from 0 until all bits are set has the longest trace there is: every state once.
@@ -78,6 +82,7 @@ fn counters_of_every_size() {
 struct Seen {
     models: usize,
     properties: PropertyCounts,
+    start_parts: StartPartCounts,
     many_cores: usize,
     most_cores: usize,
     many_cuts: usize,
@@ -110,8 +115,9 @@ fn compare_models(
         for (place, count) in plan.iter().enumerate() {
             assert_ne!(*count, 0, "every N comes with every R");
             for _ in 0..*count {
-                let text = models::model(&mut random, place + 1, rules).text();
-                compare_model(&mut random, &mut seen, &text);
+                let written = models::model(&mut random, place + 1, rules);
+                compare_model(&mut random, &mut seen, &written.text());
+                seen.start_parts.note(&written);
             }
         }
     }
@@ -142,7 +148,7 @@ fn note_features(seen: &mut Seen, plain: &Answers) {
     seen.many_cuts += usize::from(cuts >= 10);
     seen.most_cuts = seen.most_cuts.max(cuts);
     seen.contradictory += usize::from(is_contradictory(plain));
-    seen.no_start += usize::from(!plain.system.start.contains(&true));
+    seen.no_start += usize::from(!plain.system.start_states(0).contains(&true));
     seen.no_successor += usize::from(has_start_without_successor(plain));
     seen.no_core += usize::from(plain.cores.is_empty());
     seen.empty_core += usize::from(plain.cores == [0]);
@@ -169,7 +175,8 @@ fn has_successor(plain: &Answers, set: u16, now: usize) -> bool {
 /// The full set has steps, but none from some start state.
 fn has_start_without_successor(plain: &Answers) -> bool {
     let full_set = plain.system.full_set();
-    let stuck = |state: usize| plain.system.start[state] && !has_successor(plain, full_set, state);
+    let start = plain.system.start_states(full_set);
+    let stuck = |state: usize| start[state] && !has_successor(plain, full_set, state);
     has_step(plain, full_set) && (0..plain.system.states).any(stuck)
 }
 

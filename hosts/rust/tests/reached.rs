@@ -14,7 +14,7 @@ use codremif_host::random::damage::damaged;
 use codremif_host::random::generator::seed_for;
 use codremif_host::random::lists::random_set;
 use codremif_host::random::models::{full_counter, model, model_of, KINDS};
-use codremif_host::random::written::{join, later, literal, now, Written};
+use codremif_host::random::written::{join, later, literal, now, Written, WrittenRule};
 use codremif_host::random::Random;
 
 /// What came up, so that a test can demand that everything did.
@@ -82,7 +82,7 @@ impl Seen {
     }
 
     fn note_pairs(&mut self, system: &TransitionSystem, set: u16, marks: &[u8], pairs: usize) {
-        let (starts, reached) = (starts(system), count(marks));
+        let (starts, reached) = (starts(system, set), count(marks));
         self.no_start += usize::from(starts == 0);
         self.all_start += usize::from(starts == system.states);
         self.not_all_reached += usize::from(reached < system.states);
@@ -140,7 +140,7 @@ fn marks(asked: &Asked, set: u16) -> Vec<u8> {
 /// What the request says of how many pairs are tried.
 fn check_pairs(asked: &Asked, set: u16, marks: &[u8], pairs: usize) {
     let states = asked.system.states;
-    let (starts, reached) = (starts(&asked.system), count(marks));
+    let (starts, reached) = (starts(&asked.system, set), count(marks));
     let about = || format!("{pairs} pairs, {starts} start states, {reached} reached; {}", about(asked, set));
     if reached < states {
         assert_eq!(pairs, states * reached, "{}", about());
@@ -155,8 +155,8 @@ fn check_pairs(asked: &Asked, set: u16, marks: &[u8], pairs: usize) {
     assert!(pairs <= 16_384, "{}", about());
 }
 
-fn starts(system: &TransitionSystem) -> usize {
-    system.start.iter().filter(|start| **start).count()
+fn starts(system: &TransitionSystem, set: u16) -> usize {
+    system.start_states(set).iter().filter(|start| **start).count()
 }
 
 fn count(marks: &[u8]) -> usize {
@@ -165,7 +165,7 @@ fn count(marks: &[u8]) -> usize {
 
 /// The states that end some run: the start states and, second by second, whatever follows them, until no state is added.
 fn ends_of_runs(system: &TransitionSystem, set: u16) -> Vec<u8> {
-    let mut ends = system.start.clone();
+    let mut ends = system.start_states(set);
     loop {
         let follows = |state| (0..system.states).any(|now| ends[now] && system.is_step(set, now, state));
         let one_second_later: Vec<bool> =
@@ -179,7 +179,7 @@ fn ends_of_runs(system: &TransitionSystem, set: u16) -> Vec<u8> {
 
 /// How many pairs would be tried if of the marked states the smallest came first, and not the one that was marked first.
 fn pairs_by_number(system: &TransitionSystem, set: u16) -> usize {
-    let mut marks = system.start.clone();
+    let mut marks = system.start_states(set);
     let mut tried = vec![false; system.states];
     let mut pairs = 0;
     while let Some(first) = (0..system.states).find(|state| marks[*state] && !tried[*state]) {
@@ -309,6 +309,6 @@ fn forbidding_each_pair(starts: &[usize]) -> Written {
     };
     let init = join('|', &starts.iter().map(|start| state(*start, now)).collect::<Vec<_>>());
     let forbidding = |pair: usize| format!("!&{}{}", state(pair / 4, now), state(pair % 4, later));
-    let rules = (0..16).map(|pair| (format!("r{pair}"), forbidding(pair))).collect();
+    let rules = (0..16).map(|pair| WrittenRule::new(format!("r{pair}"), forbidding(pair))).collect();
     Written { bits: 2, init, properties: vec!["1".to_string()], rules }
 }

@@ -1,22 +1,26 @@
-//! Rules that nobody relies on: two proved facts, tried on random models with one to four properties. The library alone is
-//! asked, about a model and about the same model with rules left out or changed.
+//! Rules that nobody relies on: two proved facts, tried on random models with one to four properties, with start parts and
+//! without. The library alone is asked, about a model and about the same model with rules left out or changed.
 
 #![deny(warnings)]
+
+use std::collections::BTreeMap;
 
 use codremif_host::answer::Verdict;
 use codremif_host::calls;
 use codremif_host::compare::show;
+use codremif_host::plain::expression::Place;
 use codremif_host::random::generator::seed_for;
 use codremif_host::random::models::model;
 use codremif_host::random::properties::PropertyCounts;
-use codremif_host::random::written::{expression, Written};
+use codremif_host::random::start_parts::StartPartCounts;
+use codremif_host::random::written::{any_expression, Written, WrittenRule};
 use codremif_host::random::Random;
 
 /// Each fact is tried on so many models at least to which it applies and says something.
 const APPLIED: usize = 5_000;
 
 /// Where some rule is in a core, leaving out every irrelevant rule gives a model with the same cores by name; so it has the
-/// same cuts, MUST and MAY, and no rule of it is irrelevant.
+/// same cuts, MUST and MAY, and no rule of it is irrelevant. The rules that stay keep their start parts.
 #[test]
 fn without_the_irrelevant_rules() {
     let mut random = Random::new(seed_for("without the irrelevant rules", 20_260_501));
@@ -40,10 +44,12 @@ fn without_the_irrelevant_rules() {
     assert!(seen.all_kinds >= 300 && seen.many_cores >= 500, "{seen:?}");
     assert_eq!((seen.most_bits, seen.most_rules), (7, 16), "{seen:?}");
     assert!(seen.properties.fewest() >= 1000, "{seen:?}");
+    assert!(seen.start_parts.fewest() >= 500 && seen.start_part_left_out >= 1000, "{seen:?}");
 }
 
-/// If the properties hold, they do so with any legal expression in place of that of one rule outside MUST. A rule of MUST
-/// shows that it need not be so: with `1` in its place some property is broken.
+/// If the properties hold, they do so with any legal expression in place of the step part or the start part of one rule
+/// outside MUST, and where this rule gets a start part that it had not, or loses its own. A rule of MUST shows that it need
+/// not be so: with `1` for its step part and no start part some property is broken.
 #[test]
 fn another_expression_outside_must() {
     let mut random = Random::new(seed_for("another expression outside MUST", 20_260_502));
@@ -64,6 +70,10 @@ fn another_expression_outside_must() {
     assert!(seen.in_must >= 1000, "{seen:?}");
     assert!(seen.shortest == 1 && seen.longest == 64, "{seen:?}");
     assert!(seen.properties.fewest() >= 1000, "{seen:?}");
+    for part in [Part::Step, Part::Start, Part::StartAdded, Part::StartTakenAway] {
+        let times = seen.parts.get(&part).copied().unwrap_or(0);
+        assert!(times >= 500, "{part:?} came up {times} times only; {seen:?}");
+    }
 }
 
 /// Small ones mostly: a call's time grows with 4^N.
@@ -89,7 +99,7 @@ struct Named {
 impl Named {
     fn of(written: &Written) -> Named {
         let text = written.text();
-        let names = |set| places(set, written).map(|place| written.rules[place].0.clone()).collect();
+        let names = |set| places(set, written).map(|place| written.rules[place].name.clone()).collect();
         let named = |sets: Vec<u16>| sets.into_iter().map(names).collect();
         Named {
             cores: named(calls::listed(calls::cores, &text).expect("an accepted model")),
@@ -119,9 +129,10 @@ fn without(written: &Written, set: u16) -> Written {
     Written { rules: kept.collect(), ..written.clone() }
 }
 
-fn with_expression(written: &Written, place: usize, expression: String) -> Written {
+/// The other rules stay as they are.
+fn with_rule(written: &Written, place: usize, rule: WrittenRule) -> Written {
     let mut changed = written.clone();
-    changed.rules[place].1 = expression;
+    changed.rules[place] = rule;
     changed
 }
 
@@ -130,16 +141,32 @@ fn holds(written: &Written) -> bool {
     verdict.expect("an accepted model") == Verdict::Holds
 }
 
-/// Another expression than this, of any length.
-fn another(random: &mut Random, bits: usize, expression_before: &str) -> String {
-    loop {
-        let longest = random.pick(&[1, 3, 8, 20, 64]);
-        let length = random.between(1, longest);
-        let other = expression(random, bits, true, length);
-        if other != expression_before {
-            return other;
+/// Which part of a rule is another one afterwards.
+#[derive(Clone, Copy, Debug, PartialEq, Eq, PartialOrd, Ord)]
+enum Part {
+    Step,
+    Start,
+    StartAdded,
+    StartTakenAway,
+}
+
+/// The rule with another expression than before, and which of its parts that is.
+fn another_rule(random: &mut Random, bits: usize, rule: &WrittenRule) -> (Part, WrittenRule) {
+    let mut other = rule.clone();
+    let part = match &rule.start {
+        _ if random.percent(40) => Part::Step,
+        None => Part::StartAdded,
+        Some(_) if random.percent(60) => Part::Start,
+        Some(_) => Part::StartTakenAway,
+    };
+    while other == *rule {
+        match part {
+            Part::Step => other.step = any_expression(random, bits, Place::Step),
+            Part::Start | Part::StartAdded => other.start = Some(any_expression(random, bits, Place::State)),
+            Part::StartTakenAway => other.start = None,
         }
     }
+    (part, other)
 }
 
 fn replace_outside_must(random: &mut Random, seen: &mut Replaced, written: &Written) {
@@ -151,11 +178,11 @@ fn replace_outside_must(random: &mut Random, seen: &mut Replaced, written: &Writ
         return;
     }
     let place = random.pick(&outside);
-    let other = another(random, written.bits, &written.rules[place].1);
-    seen.note(&text, must, place, &other);
+    let (part, other) = another_rule(random, written.bits, &written.rules[place]);
+    seen.note(&text, must, place, part, &other);
     seen.properties.note(written.properties.len());
-    let changed = with_expression(written, place, other);
-    assert!(holds(&changed), "held with {} before; {}", written.rules[place].1, show(&changed.text()));
+    let changed = with_rule(written, place, other);
+    assert!(holds(&changed), "held with {:?} before; {}", written.rules[place], show(&changed.text()));
 }
 
 fn weaken_in_must(random: &mut Random, seen: &mut Replaced, written: &Written) {
@@ -165,7 +192,9 @@ fn weaken_in_must(random: &mut Random, seen: &mut Replaced, written: &Written) {
         return;
     }
     seen.in_must += 1;
-    let changed = with_expression(written, random.pick(&inside), "1".to_string());
+    let place = random.pick(&inside);
+    let says_nothing = WrittenRule::new(written.rules[place].name.clone(), "1".to_string());
+    let changed = with_rule(written, place, says_nothing);
     assert!(!holds(&changed), "a rule of MUST gone, and it holds; {}", show(&changed.text()));
 }
 
@@ -175,6 +204,9 @@ struct LeftOut {
     models: usize,
     compared: usize,
     properties: PropertyCounts,
+    start_parts: StartPartCounts,
+    /// A rule that is left out has a start part.
+    start_part_left_out: usize,
     several_left_out: usize,
     several_cores: usize,
     many_cores: usize,
@@ -185,8 +217,12 @@ struct LeftOut {
 
 impl LeftOut {
     fn note(&mut self, named: &Named, written: &Written) {
+        let is_left_out = |rule: &WrittenRule| named.irrelevant.contains(&rule.name);
+        let left_out = written.rules.iter().filter(|rule| is_left_out(rule));
         self.compared += 1;
         self.properties.note(written.properties.len());
+        self.start_parts.note(written);
+        self.start_part_left_out += usize::from(left_out.into_iter().any(|rule| rule.start.is_some()));
         self.several_left_out += usize::from(named.irrelevant.len() >= 2);
         self.several_cores += usize::from(named.cores.len() >= 2);
         self.many_cores += usize::from(named.cores.len() >= 10);
@@ -207,21 +243,28 @@ struct Replaced {
     irrelevant_beside_core: usize,
     empty_core: usize,
     in_must: usize,
+    /// Where the rule was in MAY, or irrelevant beside a core.
+    parts: BTreeMap<Part, usize>,
     shortest: usize,
     longest: usize,
 }
 
 impl Replaced {
-    fn note(&mut self, text: &[u8], must: u16, place: usize, expression: &str) {
+    fn note(&mut self, text: &[u8], must: u16, place: usize, part: Part, other: &WrittenRule) {
         let may = calls::may(text).expect("accepted before");
         match (may >> place & 1 == 1, must | may) {
             (true, _) => self.in_may += 1,
             (false, 0) => self.empty_core += 1,
             (false, _) => self.irrelevant_beside_core += 1,
         }
-        self.longest = self.longest.max(expression.len());
-        if self.shortest == 0 || expression.len() < self.shortest {
-            self.shortest = expression.len();
+        *self.parts.entry(part).or_default() += usize::from(must | may != 0);
+        let length = match part {
+            Part::Step => other.step.len(),
+            _ => other.start.as_ref().map_or(1, String::len),
+        };
+        self.longest = self.longest.max(length);
+        if self.shortest == 0 || length < self.shortest {
+            self.shortest = length;
         }
     }
 }

@@ -14,6 +14,7 @@ use codremif_host::random::damage::damaged;
 use codremif_host::random::generator::seed_for;
 use codremif_host::random::models::Kind;
 use codremif_host::random::properties::{with_several_properties, PropertyCounts};
+use codremif_host::random::start_parts::{with_start_parts, StartPartCounts};
 use codremif_host::random::{models, Random};
 
 const TREMOR: &[u8] = b"vars=3\nrules=3\ninit=!c\nprop=>c&ab\nrule=ra:>CA\nrule=rb:>CB\nrule=vote:>C&AB\n";
@@ -35,6 +36,27 @@ cut=rb,vote\n";
 fn tremor_as_the_format_prints_it() {
     assert_alike("plain report", &report(TREMOR), TREMOR_REPORT, TREMOR);
     assert_alike("report program", &Program::found().report(TREMOR), TREMOR_REPORT, TREMOR);
+}
+
+/// Tremor that may start in any state, and a rule that it starts quiet: it is in every core for its start part.
+#[test]
+fn a_rule_that_speaks_about_power_up() {
+    let text =
+        b"vars=3\nrules=4\ninit=1\nprop=>c&ab\nrule=ra:>CA\nrule=rb:>CB\nrule=vote:>C&AB\nrule=quiet:1:!c\n";
+    let expected = b"\
+verdict=holds\n\
+must=quiet\n\
+may=ra,rb,vote\n\
+irr=-\n\
+cores=2\n\
+core=vote,quiet\n\
+core=ra,rb,quiet\n\
+cuts=3\n\
+cut=quiet\n\
+cut=ra,vote\n\
+cut=rb,vote\n";
+    assert_alike("plain report", &report(text), expected, text);
+    assert_alike("report program", &Program::found().report(text), expected, text);
 }
 
 /// Each models/NAME.txt has its report in models/NAME.report.
@@ -94,7 +116,7 @@ fn properties_of_sample_models() {
 /// The models that are there for their size keep it.
 #[test]
 fn sizes_of_sample_models() {
-    for (name, length) in [("largest", 1420), ("largest_four", 1630)] {
+    for (name, length) in [("largest", 1420), ("largest_four", 1630), ("largest_starts", 2670)] {
         assert_eq!(sample(name, "txt").len(), length, "{name}");
         assert!(sample(name, "txt").starts_with(b"vars=7\nrules=16\n"), "{name}");
         assert!(count_lines(name, b"core=") >= 2, "{name}");
@@ -103,23 +125,41 @@ fn sizes_of_sample_models() {
     assert_eq!(count_lines("long_trace", b"state="), 128);
 }
 
+/// As long as no other legal text: `largest_four` with a start part of 64 bytes in each rule, which says again what `init` says
+/// and so changes nothing.
+fn longest() -> Vec<u8> {
+    let text = String::from_utf8(sample("largest_four", "txt")).expect("letters, digits and signs");
+    let init = text.lines().find_map(|line| line.strip_prefix("init=")).expect("a line that each text has");
+    let with_start_part = |line: &str| match line.starts_with("rule=") {
+        true => format!("{line}:{init}\n"),
+        false => format!("{line}\n"),
+    };
+    text.lines().map(with_start_part).collect::<String>().into_bytes()
+}
+
+#[test]
+fn the_longest_text() {
+    let (text, expected) = (longest(), sample("largest_four", "report"));
+    assert_eq!(text.len(), 2670);
+    assert_alike("plain report", &report(&text), &expected, &text);
+    assert_alike("report program", &Program::found().report(&text), &expected, &text);
+}
+
 /// Every N with every R once, and many small ones.
 #[test]
 fn random_models() {
     let mut random = Random::new(seed_for("reports on random models", 20_260_301));
     let mut seen = Seen::new();
-    for rules in 1..=16 {
-        for bits in 1..=7 {
-            let text = models::model(&mut random, bits, rules).text();
-            seen.compare(&text);
-        }
+    let mut start_parts = StartPartCounts::default();
+    let every_size = (1..=16).flat_map(|rules| (1..=7).map(move |bits| (bits, rules)));
+    let small = (0..600).map(|turn| (turn % 5 + 1, turn / 5 % 6 + 1));
+    for (bits, rules) in every_size.chain(small) {
+        let written = models::model(&mut random, bits, rules);
+        start_parts.note(&written);
+        seen.compare(&written.text());
     }
-    for turn in 0..600 {
-        let (bits, rules) = (turn % 5 + 1, turn / 5 % 6 + 1);
-        let text = models::model(&mut random, bits, rules).text();
-        seen.compare(&text);
-    }
-    println!("reports on random models: {seen:?}");
+    println!("reports on random models: {start_parts:?}, {seen:?}");
+    assert!(start_parts.fewest() >= 100, "{start_parts:?}");
     assert_eq!(seen.accepted, 712);
     assert!(seen.holds >= 100 && seen.broken >= 100, "{seen:?}");
     assert!(seen.no_core >= 50 && seen.empty_core >= 50 && seen.many_cores >= 10, "{seen:?}");
@@ -139,6 +179,9 @@ fn long_reports() {
         let (bits, rules) = ([3, 5, 6, 5, 4][turn % 5], 16 - turn % 2);
         let mut written = models::model_of(&mut random, kind, bits, rules);
         with_several_properties(&mut random, &mut written, turn / 3 % 4 + 1);
+        if turn % 5 == 4 {
+            with_start_parts(&mut random, &mut written);
+        }
         seen.compare(&written.text());
     }
     // Five bits that must stay 0, kept by 4, 3, 3, 3 and 3 rules: 324 cores of 5 rules with names of 8 bytes.
@@ -208,9 +251,9 @@ fn randomly_damaged_texts() {
     assert!(seen.properties.fewest() >= 5, "{seen:?}");
 }
 
-/// The first 2,048 bytes are judged alone: a line that ends in the last of them ends, and one byte later it does not.
+/// The first 4,096 bytes are judged alone: a line that ends in the last of them ends, and one byte later it does not.
 #[test]
-fn lines_that_end_near_byte_2048() {
+fn lines_that_end_near_byte_4096() {
     let mut seen = Seen::new();
     let lines_before = [
         (&b""[..], &b"vars="[..], Reason::Count),
@@ -222,16 +265,18 @@ fn lines_that_end_near_byte_2048() {
         (b"vars=3\nrules=3\ninit=!c\nprop=1\nprop=1\nprop=1\nprop=1\n", b"prop=", Reason::LineDue),
         (&TREMOR[..34], b"rule=", Reason::Name),
         (&TREMOR[..46], b"rule=rb:", Reason::ExpressionLength),
+        (&TREMOR[..46], b"rule=rb:1:", Reason::ExpressionLength),
         (&TREMOR[..58], b"rule=ra:", Reason::NameTwice),
+        (&TREMOR[..58], b"rule=ra:1:", Reason::NameTwice),
     ];
     for (before, key, reason) in lines_before {
         let line = before.split(|byte| *byte == 10).count() as u8;
         for (length, number) in [
-            (2047, reason),
-            (2048, reason),
-            (2049, Reason::LineDue),
-            (2050, Reason::LineDue),
-            (5000, Reason::LineDue),
+            (4095, reason),
+            (4096, reason),
+            (4097, Reason::LineDue),
+            (4098, Reason::LineDue),
+            (9000, Reason::LineDue),
         ] {
             let mut text = [before, key].concat();
             text.resize(length - 1, b'1');
@@ -240,7 +285,7 @@ fn lines_that_end_near_byte_2048() {
             seen.refused_with(&text, Refused::new(number, line));
         }
     }
-    println!("lines that end near byte 2048: {seen:?}");
+    println!("lines that end near byte 4096: {seen:?}");
 }
 
 /// More bytes after a legal model are refused with 9, however many they are.
@@ -252,11 +297,12 @@ fn bytes_after_a_model() {
         (&sample("quiet_release", "txt"), 14),
         (&sample("largest", "txt"), 21),
         (&sample("largest_four", "txt"), 24),
+        (&longest(), 24),
     ] {
         for more in [&b"\n"[..], b"\0", b"r", b"rule=more:1\n", b"\r", b"\xff", model] {
             seen.refused_with(&[model, more].concat(), Refused::new(Reason::BytesFollow, line));
         }
-        for length in [2000, 2047, 2048, 2049, 2048 + model.len(), 70_000, 1_000_000] {
+        for length in [4000, 4095, 4096, 4097, 4096 + model.len(), 70_000, 1_000_000] {
             for byte in [0, b'\n', b'a'] {
                 let mut text = model.to_vec();
                 text.resize(length, byte);
@@ -326,10 +372,16 @@ fn inputs_in_pieces() {
         let printed = program.report_in_pieces(&pieces, 10 * pause);
         assert_alike("report program", &printed, &expected, &text);
     }
-    let long = [&sample("largest", "txt")[..], &[b'\n'; 1000]].concat();
+    let longest = longest();
+    for length in [500, 2047, 2048, 2669] {
+        let pieces: Vec<&[u8]> = longest.chunks(length).collect();
+        let printed = program.report_in_pieces(&pieces, 10 * pause);
+        assert_alike("report program", &printed, &sample("largest_four", "report"), &longest);
+    }
+    let long = [&longest[..], &[b'\n'; 2000]].concat();
     let pieces: Vec<&[u8]> = long.chunks(300).collect();
     let printed = program.report_in_pieces(&pieces, pause);
-    assert_alike("report program", &printed, b"refused=9\nline=21\n", &long);
+    assert_alike("report program", &printed, b"refused=9\nline=24\n", &long);
 }
 
 /// What came up, so that a test can demand that everything did.
@@ -473,7 +525,7 @@ fn assert_alike(by: &str, printed: &[u8], expected: &[u8], input: &[u8]) {
         "the {by} differs in line {first}\nprinted  b\"{}\"\nexpected b\"{}\"\n{}",
         printed.escape_ascii(),
         expected.escape_ascii(),
-        show(&input[..input.len().min(3000)])
+        show(&input[..input.len().min(5000)])
     );
 }
 

@@ -6,6 +6,7 @@ use mathlib.Core.Path.{_≡_, sym, ap, ap₂, _∙_, subst}
 use mathlib.Core.Logic.{_↔_, Iff·trans}
 use mathlib.Core.Bool.{Bool, true, false, true≢false}
 use mathlib.Core.List.{List, map, map-map}
+use mathlib.Core.Option.{Option}
 use native.Mathlib.Omega.{arith}
 use lib.Count.{ones}
 use lib.ListN.{length, length-map}
@@ -22,7 +23,7 @@ use Rattle.sets.specs.Renumbered.{spread, renumbered}
 use Rattle.sets.specs.Laws.Kept.{map-kept, kept-kept, old-onto}
 use Rattle.sets.specs.Laws.Renumbered.{Reduced, relevant-reduced, none-irrelevant}
 use Rattle.exprs.specs.Expr.{Expr}
-use Rattle.lines.specs.Written.{Rule, LegalExpr}
+use Rattle.lines.specs.Written.{Rule, LegalExpr, LegalStart}
 use Rattle.models.specs.declared.model.Outcome.the-variants.{Accepted}
 use Rattle.models.specs.Written.{Described, Legal, namesOf, writtenModel, modelIn}
 use Rattle.models.specs.Accepted.{told-back}
@@ -130,15 +131,15 @@ reducible text model i m =
 
 module _ (text : List ℕ) (model : textOutcome text ≡ Accepted) where
   replaceable : (lent : List ℕ) → judgeAnswer text (full (rulesIn text)) lent ≡ Holds → (i : ℕ) → i < rulesIn text → has (kindIn Must text) i ≡ false
-      → (e : Expr) → LegalExpr (modelIn text .vars) true e → Replaceable text i e
+      → (step : Expr) → LegalExpr (modelIn text .vars) true step → (start : Option Expr) → LegalStart (modelIn text .vars) start → Replaceable text i step start
   unfolding rulesIn kindIn ofKind judgeIn
-  replaceable lent all i h n e le =
+  replaceable lent all i h n step le start ls =
       let M : Described = modelIn text in
-      let M′ : Described = replacing i e M in
+      let M′ : Described = replacing i step start M in
       let R : ℕ = length (M .rules) in
-      let legal : Legal M′ = replacing-legal i e M h (told-legal text model) le in
-      let count : rulesIn (writtenModel M′) ≡ R = written-rules M′ legal ∙ length-replacing i e M in
-      let holds : judge M′ (full R) ≡ true = replacing-holds i e M h (by-call text model (full R) (ones-lt R) lent .1 all) n in
+      let legal : Legal M′ = replacing-legal i step start M h (told-legal text model) le ls in
+      let count : rulesIn (writtenModel M′) ≡ R = written-rules M′ legal ∙ length-replacing i step start M in
+      let holds : judge M′ (full R) ≡ true = replacing-holds i step start M h (by-call text model (full R) (ones-lt R) lent .1 all) n in
       let accepted : textOutcome (writtenModel M′) ≡ Accepted = written-accepted M′ legal in
       record {
         legal = legal;

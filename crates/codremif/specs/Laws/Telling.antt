@@ -10,7 +10,7 @@ use Rattle.models.specs.declared.model.Outcome.the-variants.{Accepted}
 use Rattle.sorting.specs.declared.which.WhichList.the-variants.{Cores}
 use Rattle.calls.specs.declared.answers.JudgeAnswer.{JudgeAnswer}
 use Rattle.calls.specs.declared.answers.JudgeAnswer.the-variants.{Refused as JudgeRefused, Holds, Broken}
-use Rattle.calls.specs.Answers.{systemIn, judgeIn, listIn, textOutcome, judgeAnswer}
+use Rattle.calls.specs.Answers.{systemIn, judgeIn, listIn, textOutcome, verdictOf, judgeAnswer}
 use Rattle.calls.specs.Laws.Answers.{given-accepted, not-refused}
 use Rattle.codremif.specs.Packing.{accepted, refused, judgeParts, packed}
 use Rattle.codremif.specs.Demand3.{inRattle, forHosts, Judges}
@@ -38,7 +38,7 @@ refused-some : (text : List ℕ) (S : ℕ) (lent : List ℕ) {number line : ℕ}
 unfolding judgeAnswer judgeParts refused
 refused-some text S lent {number} {line} q z =
     let accepted = judge-reads text S lent .zero .0 (ap (λ a. judgeParts a .number) q ∙ z) in
-    not-refused (systemIn text S) number line (sym (given-accepted JudgeRefused _ accepted) ∙ q)
+    not-refused (systemIn text S) number line (sym (given-accepted JudgeRefused (verdictOf (systemIn text S)) accepted) ∙ q)
 
 -- A packed answer of so many times 65,536 is that of a trace of so many states.
 broken-packed : (text : List ℕ) (S : ℕ) (lent : List ℕ) (n : ℕ) → n ≤ 128

@@ -2,7 +2,7 @@
 -- From the definitions of `Bytes` and `all` of `Lines`, by induction on the lists.
 use Prim.Native.Nat.{ℕ, suc, _+_, _≤_, _<_}
 use mathlib.Core.Path.{_≡_, refl, sym, ap, ap₂, _∙_}
-use mathlib.Core.Bool.{Bool, true, false, cond, not, _&&_, and-assoc, and-eq-true-iff, false≢true}
+use mathlib.Core.Bool.{Bool, true, false, cond, not, _&&_, and-false, and-assoc, and-eq-true-iff, false≢true}
 use mathlib.Core.List.{List, [], _∷_, _++_}
 use native.Mathlib.Omega.{arith}
 use borrow.Author.Tests.{ne-eqb}
@@ -10,7 +10,7 @@ use lib.Dec.{eqb, eqb·suc-suc, eqb·zero-suc}
 use lib.ListN.{length, getD, take}
 use Rattle.sets.specs.Laws.Choice.{by-test}
 use Rattle.lines.specs.declared.classes.Class.{Class}
-use Rattle.lines.specs.declared.classes.Class.the-variants.{InLine}
+use Rattle.lines.specs.declared.classes.Class.the-variants.{InLine, InPart, InExpression, Allowed, InExpressionOf}
 use Rattle.lines.specs.Bytes.{belongs, prefix}
 use Rattle.lines.specs.Lines.{all}
 
@@ -33,6 +33,20 @@ all-append c [] t = ap (λ x. x && all c t) (sym (all-nil c))
 all-append c (b ∷ s) t =
     all-cons c b (s ++ t) ∙ ap (λ x. belongs c b && x) (all-append c s t) ∙ sym (and-assoc (belongs c b) (all c s) (all c t)) ∙ ap (λ x. x && all c t) (sym (all-cons c b s))
 
+-- the bytes of expressions that the letters allow
+pub all-in-expression-of : (n : ℕ) (capitals : Bool) (s : List ℕ) → all (InExpressionOf n capitals) s ≡ (all InExpression s && all (Allowed n capitals) s)
+unfolding belongs
+all-in-expression-of n capitals [] = all-nil (InExpressionOf n capitals) ∙ sym (ap₂ _&&_ (all-nil InExpression) (all-nil (Allowed n capitals)))
+all-in-expression-of n capitals (b ∷ s) =
+    all-cons (InExpressionOf n capitals) b s ∙ ap (λ x. belongs (InExpressionOf n capitals) b && x) (all-in-expression-of n capitals s)
+    ∙ exchanged (belongs InExpression b) (belongs (Allowed n capitals) b) (all InExpression s) (all (Allowed n capitals) s)
+    ∙ sym (ap₂ _&&_ (all-cons InExpression b s) (all-cons (Allowed n capitals) b s))
+  where
+    exchanged : (p q x y : Bool) → ((p && q) && (x && y)) ≡ ((p && x) && (q && y))
+    exchanged true true x y = refl
+    exchanged true false x y = sym (and-false x)
+    exchanged false q x y = refl
+
 -- the first byte and the others
 pub all-parts : (c : Class) (b : ℕ) (s : List ℕ) → all c (b ∷ s) ≡ true → (belongs c b ≡ true) × (all c s ≡ true)
 all-parts c b s e = and-eq-true-iff (belongs c b) (all c s) .0 (sym (all-cons c b s) ∙ e)
@@ -40,14 +54,23 @@ all-parts c b s e = and-eq-true-iff (belongs c b) (all c s) .0 (sym (all-cons c 
 pub all-more : (c : Class) (b : ℕ) (s : List ℕ) → belongs c b ≡ true → all c s ≡ true → all c (b ∷ s) ≡ true
 all-more c b s p q = all-cons c b s ∙ ap₂ _&&_ p q
 
--- a class without byte 10 is within a line
-in-line : (c : Class) (b : ℕ) → belongs c 10 ≡ false → belongs c b ≡ true → belongs InLine b ≡ true
-unfolding belongs
-in-line c b f p = ap not (ne-eqb b 10 (λ q. false≢true (sym f ∙ ap (belongs c) (sym q) ∙ p)))
+-- a class without the byte x is within the class of all other bytes
+module _ (x : ℕ) (others : Class) (is : (b : ℕ) → belongs others b ≡ not (eqb b x)) (c : Class) (lacks : belongs c x ≡ false) where
+  other : (b : ℕ) → belongs c b ≡ true → belongs others b ≡ true
+  other b p = is b ∙ ap not (ne-eqb b x (λ q. false≢true (sym lacks ∙ ap (belongs c) (sym q) ∙ p)))
 
+  all-others : (s : List ℕ) → all c s ≡ true → all others s ≡ true
+  all-others [] e = all-nil others
+  all-others (b ∷ s) e = let h = all-parts c b s e in all-more others b s (other b (h .0)) (all-others s (h .1))
+
+-- one without byte 10 is within a line, and one without `:` within a part of a rule
 pub all-in-line : (c : Class) → belongs c 10 ≡ false → (s : List ℕ) → all c s ≡ true → all InLine s ≡ true
-all-in-line c f [] e = all-nil InLine
-all-in-line c f (b ∷ s) e = let h = all-parts c b s e in all-more InLine b s (in-line c b f (h .0)) (all-in-line c f s (h .1))
+unfolding belongs
+all-in-line = all-others 10 InLine (λ b. refl)
+
+pub all-in-part : (c : Class) → belongs c 58 ≡ false → (s : List ℕ) → all c s ≡ true → all InPart s ≡ true
+unfolding belongs
+all-in-part = all-others 58 InPart (λ b. refl)
 
 -- ---- the prefix of a class
 

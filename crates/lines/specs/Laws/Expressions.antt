@@ -15,12 +15,12 @@ use Rattle.exprs.specs.Token.{tokenOf}
 use Rattle.exprs.specs.Reading.{readExpr}
 use Rattle.exprs.specs.Laws.Reading.{size-pos, back-now, back-next, reads-what-is-written}
 use Rattle.lines.specs.declared.classes.Class.{Class}
-use Rattle.lines.specs.declared.classes.Class.the-variants.{InLine, InExpression, Allowed}
+use Rattle.lines.specs.declared.classes.Class.the-variants.{InLine, InPart, InExpression, Allowed}
 use Rattle.lines.specs.Bytes.{isToken, allowed, belongs}
 use Rattle.lines.specs.Lines.{all, isSize, isOne, faultOf}
 use Rattle.lines.specs.Written.{Small, LegalExpr}
 use Rattle.lines.specs.Laws.Numbers.{expression-numbers, by-expression}
-use Rattle.lines.specs.Laws.Bytes.{all-nil, all-append, all-parts, all-more, all-in-line}
+use Rattle.lines.specs.Laws.Bytes.{all-nil, all-append, all-parts, all-more, all-in-line, all-in-part}
 
 -- ---- the bytes of an expression
 
@@ -138,10 +138,18 @@ fault-back n capitals s =
     let most = leb-true (length s) 64 (and-eq-true-iff (leb 1 (length s)) (leb (length s) 64) .0 a .1) in
     (o .0, record { bytes = omega (arith, ap length (o .2)); letters = f .0; small = f .1 }, o .2))
 
--- it has no byte 10
-pub legal-in-line : (n : ℕ) (capitals : Bool) (e : Expr) → n ≤ 7 → LegalExpr n capitals e → all InLine (written e) ≡ true
-unfolding belongs tokenOf
-legal-in-line n capitals e h l = all-in-line InExpression refl (written e) (in-expression e (letters-more n 7 h e (l .letters)))
+-- it has no byte 10 and no `:`
+module _ (n : ℕ) (capitals : Bool) (e : Expr) (h : n ≤ 7) (l : LegalExpr n capitals e) where
+  legal-bytes : all InExpression (written e) ≡ true
+  legal-bytes = in-expression e (letters-more n 7 h e (l .letters))
+
+  pub legal-in-line : all InLine (written e) ≡ true
+  unfolding belongs tokenOf
+  legal-in-line = all-in-line InExpression refl (written e) legal-bytes
+
+  pub legal-in-part : all InPart (written e) ≡ true
+  unfolding belongs tokenOf
+  legal-in-part = all-in-part InExpression refl (written e) legal-bytes
 
 -- an expression without capital letters says nothing of the state one second later
 pub small-value : (e : Expr) → Small e → (now s t : ℕ) → value e now s ≡ value e now t

@@ -5,6 +5,7 @@ use mathlib.Core.Path.{_≡_, sym, ap, _∙_}
 use mathlib.Core.Logic.{_≢_}
 use mathlib.Core.Bool.{true, false}
 use mathlib.Core.List.{List, [], _∷_}
+use mathlib.Core.Option.{Option, none, some}
 use native.Mathlib.Omega.{arith}
 use native.Mathlib.Decide.{ℕ-discrete}
 use lib.Count.{ones, ones-le}
@@ -12,12 +13,13 @@ use lib.ListN.{length, length-set}
 use lib.Seq.{getD-set-same, getD-set-other}
 use Rattle.sets.specs.Tabulated.{tabulate}
 use Rattle.sets.specs.Renumbered.{oldPlace}
+use Rattle.sets.specs.Laws.Tabulated.{length-tabulate, getD-tabulate}
 use Rattle.sets.specs.Laws.Kept.{length-kept, kept-at, old-up, old-below}
-use Rattle.exprs.specs.Expr.{Expr}
-use Rattle.lines.specs.Written.{LegalExpr, LegalRule}
+use Rattle.exprs.specs.Expr.{Expr, written, size}
+use Rattle.lines.specs.Written.{Rule, LegalExpr, LegalStart, LegalRule}
 use Rattle.models.specs.declared.model.Model.{Model}
 use Rattle.models.specs.Written.{Described, Legal, propertyAt, ruleAt, exprAt, propertyIn, ruleIn, described}
-use Rattle.models.specs.Changed.{keeping, replacing, byProperty}
+use Rattle.models.specs.Changed.{keeping, replacing, orOne, startWrittenOut, startsWrittenOut, byProperty}
 use Rattle.models.specs.Places.{placesByProperty}
 use Rattle.models.specs.Laws.Written.{described-property}
 
@@ -39,7 +41,7 @@ module _ (U : ℕ) (M : Described) (h : U < 2 ^ length (M .rules)) where
   -- With at least one rule the model is legal.
   pub keeping-legal : Legal M → 0 < ones U → Legal (keeping U M)
   unfolding keeping
-  keeping-legal l some = record {
+  keeping-legal l left = record {
     vars = l .vars;
     count = record { atLeast = omega (arith, length-keeping); atMost = omega (arith, length-keeping, ones-le (length (M .rules)) U h, l .count .atMost) };
     init = l .init;
@@ -49,35 +51,35 @@ module _ (U : ℕ) (M : Described) (h : U < 2 ^ length (M .rules)) where
     names = λ i j k m. rw (old-rule i, old-rule j) (l .names _ _ (old-up (length (M .rules)) U i j k) (old-place j m));
   }
 
--- ---- one expression is replaced
+-- ---- the parts of one rule are replaced
 
-module _ (i : ℕ) (e : Expr) (M : Described) where
+module _ (i : ℕ) (step : Expr) (start : Option Expr) (M : Described) where
   -- There are as many rules as before.
-  pub length-replacing : length (replacing i e M .rules) ≡ length (M .rules)
+  pub length-replacing : length (replacing i step start M .rules) ≡ length (M .rules)
   unfolding replacing
   length-replacing = length-set (M .rules) i _
 
   -- Every other rule is the one that it was.
-  pub other-rule : (j : ℕ) → j ≢ i → ruleAt (replacing i e M .rules) j ≡ ruleAt (M .rules) j
+  pub other-rule : (j : ℕ) → j ≢ i → ruleAt (replacing i step start M .rules) j ≡ ruleAt (M .rules) j
   unfolding replacing
   other-rule j n = getD-set-other (M .rules) i j _ _ n
 
   module _ (h : i < length (M .rules)) where
-    replaced : ruleAt (replacing i e M .rules) i ≡ record { name = ruleAt (M .rules) i .name; step = e }
+    replaced : ruleAt (replacing i step start M .rules) i ≡ record { name = ruleAt (M .rules) i .name; step = step; start = start }
     unfolding replacing
     replaced = getD-set-same (M .rules) i _ _ h
 
-    same-name : (j : ℕ) → ruleAt (replacing i e M .rules) j .name ≡ ruleAt (M .rules) j .name
+    same-name : (j : ℕ) → ruleAt (replacing i step start M .rules) j .name ≡ ruleAt (M .rules) j .name
     same-name j = go (ℕ-discrete j i)
       where
-        go : Dec (j ≡ i) → ruleAt (replacing i e M .rules) j .name ≡ ruleAt (M .rules) j .name
+        go : Dec (j ≡ i) → ruleAt (replacing i step start M .rules) j .name ≡ ruleAt (M .rules) j .name
         go (yes q) = rw q (ap (λ r. r .name) replaced)
         go (no n) = ap (λ r. r .name) (other-rule j n)
 
-    -- With a legal expression in its place the model is legal.
-    pub replacing-legal : Legal M → LegalExpr (M .vars) true e → Legal (replacing i e M)
+    -- With legal parts in their place the model is legal.
+    pub replacing-legal : Legal M → LegalExpr (M .vars) true step → LegalStart (M .vars) start → Legal (replacing i step start M)
     unfolding replacing
-    replacing-legal l le = record {
+    replacing-legal l le ls = record {
       vars = l .vars;
       count = rw length-replacing (l .count);
       init = l .init;
@@ -87,11 +89,45 @@ module _ (i : ℕ) (e : Expr) (M : Described) where
       names = λ j k m n q. l .names j k m (rw length-replacing at n) (sym (same-name j) ∙ q ∙ same-name k);
     }
       where
-        rule : (j : ℕ) → j < length (M .rules) → Dec (j ≡ i) → LegalRule (M .vars) (ruleAt (replacing i e M .rules) j)
+        rule : (j : ℕ) → j < length (M .rules) → Dec (j ≡ i) → LegalRule (M .vars) (ruleAt (replacing i step start M .rules) j)
         rule j k (yes q) =
             let old = l .rules i h in
-            rw (q, replaced) (record { nameLength = old .nameLength; nameBytes = old .nameBytes; step = le })
+            rw (q, replaced) (record { nameLength = old .nameLength; nameBytes = old .nameBytes; step = le; start = ls })
         rule j k (no n) = rw (other-rule j n) (l .rules j k)
+
+-- ---- each missing start part is written out
+
+module _ (M : Described) where
+  -- There are as many rules as before.
+  pub length-written-out : length (startsWrittenOut M .rules) ≡ length (M .rules)
+  unfolding startsWrittenOut
+  length-written-out = length-tabulate (length (M .rules)) _
+
+  pub rule-written-out : (i : ℕ) → i < length (M .rules) → ruleAt (startsWrittenOut M .rules) i ≡ startWrittenOut (ruleAt (M .rules) i)
+  unfolding startsWrittenOut
+  rule-written-out i h = getD-tabulate (length (M .rules)) (λ i. startWrittenOut (ruleAt (M .rules) i)) _ i h
+
+  -- The model is legal.
+  pub written-out-legal : Legal M → Legal (startsWrittenOut M)
+  unfolding startsWrittenOut startWrittenOut orOne size
+  written-out-legal l = record {
+    vars = l .vars;
+    count = rw length-written-out (l .count);
+    init = l .init;
+    properties = l .properties;
+    props = l .props;
+    rules = λ i k. let h : i < length (M .rules) = rw length-written-out at k in rw (rule-written-out i h) (legal (l .rules i h));
+    names = λ i j k m.
+        let h : j < length (M .rules) = rw length-written-out at m in
+        rw (rule-written-out i (omega arith), rule-written-out j h) (l .names i j k h);
+  }
+    where
+      start : (o : Option Expr) → LegalStart (M .vars) o → LegalExpr (M .vars) false (orOne o)
+      start none k = record { bytes = omega arith; letters = tt; small = λ _. tt }
+      start (some e) k = k
+
+      legal : {r : Rule} → LegalRule (M .vars) r → LegalRule (M .vars) (startWrittenOut r)
+      legal {r} k = record { nameLength = k .nameLength; nameBytes = k .nameBytes; step = k .step; start = start (r .start) (k .start) }
 
 -- ---- one property alone
 

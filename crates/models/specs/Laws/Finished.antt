@@ -8,24 +8,16 @@ use native.Mathlib.Decide.{ℕ-discrete, decLt}
 use native.Mathlib.Omega.{arith}
 use borrow.Author.Tests.{eq-eqb, ne-eqb, lt-ltb, le-ltb}
 use lib.ListN.{length}
-use Rattle.models.specs.declared.model.Outcome.the-variants.{Accepted}
 use Rattle.models.specs.declared.model.Reading.{Reading}
 use Rattle.models.specs.declared.progress.Progress.{Progress}
-use Rattle.models.specs.Reading.{refusedReading, finished}
+use Rattle.models.specs.Reading.{refusedReading, acceptedReading, finished}
 
 module _ (text : List ℕ) (vars rules init properties : ℕ) (r : Progress) where
-  -- the reading of a text that is accepted
-  abbrev pub acceptedReading : Reading
-  acceptedReading = record {
-    outcome = Accepted;
-    model = record { vars = vars; rules = rules; init = init; properties = properties; props = r .props; names = r .names; steps = r .steps };
-  }
-
   -- The reading is refused by a rule line's number, by 9, or accepted, the first of these that fits.
   pub record LastNumbers (reading : Reading) : Type 0 where
     pub byRule : r .number ≢ 0 → reading ≡ refusedReading (r .number) (r .place .line)
     pub byNine : r .number ≡ 0 → r .place .at < length text → reading ≡ refusedReading 9 (r .place .line)
-    pub byNone : r .number ≡ 0 → length text ≤ r .place .at → reading ≡ acceptedReading
+    pub byNone : r .number ≡ 0 → length text ≤ r .place .at → reading ≡ acceptedReading vars rules init properties r
 
   pub last-numbers : LastNumbers (finished text vars rules init properties r)
   unfolding finished
@@ -38,7 +30,7 @@ module _ (text : List ℕ) (vars rules init properties : ℕ) (r : Progress) whe
   -- what is true in each of these cases is true of the reading
   pub by-last : (P : Reading → Type 0) → (r .number ≢ 0 → P (refusedReading (r .number) (r .place .line)))
       → (r .number ≡ 0 → r .place .at < length text → P (refusedReading 9 (r .place .line)))
-      → (r .number ≡ 0 → length text ≤ r .place .at → P acceptedReading) → P (finished text vars rules init properties r)
+      → (r .number ≡ 0 → length text ≤ r .place .at → P (acceptedReading vars rules init properties r)) → P (finished text vars rules init properties r)
   by-last P rule nine none = go (ℕ-discrete (r .number) 0) (decLt (r .place .at) (length text))
     where
       go : Dec (r .number ≡ 0) → Dec (r .place .at < length text) → P (finished text vars rules init properties r)

@@ -18,15 +18,16 @@ use Rattle.rule_lines.specs.declared.names.RuleParts.{RuleParts}
 use Rattle.lines.specs.Bytes.{belongs, prefix}
 use Rattle.lines.specs.Decimal.{decimal}
 use Rattle.lines.specs.Lines.{ruleKey, lineLength, isLine, valueOf, says, unlessFault, countIn, counted, countLine, all, stateLine}
-use Rattle.rule_lines.specs.RuleLines.{isNamed, partsAt, ruleLine}
+use Rattle.rule_lines.specs.RuleLines.{isNamed, stepLength, partsFault, partsAt, ruleLine}
 use Rattle.lines.specs.Written.{Within, line}
 use Rattle.lines.specs.Laws.Bytes.{all-append, prefix-seam, all-prefix}
 use Rattle.lines.specs.Laws.Decimal.{decimal-apart}
 use Rattle.rule_lines.specs.Laws.Numbers.{by-rule}
 use Rattle.lines.specs.Laws.Lines.{line-append, line-there, line-back, count-there, count-back}
 use Rattle.rule_lines.specs.Laws.RuleLines.{named-there, named-back, ruleKey-in-line}
-use Rattle.models.specs.Refusals.{afterLines, LineAt, HasValue, CountLine, vars-line, rules-line, firstRuleLine, StateLine, init-line, prop-line, GivesCount, IsN, IsR, IsRuleLine, count-due, state-due, rule-due, ProperName, HasName, Expression, of-state, of-rule, FitsAt, line-missing, count-wrong, name-improper, name-taken, length-wrong, byte-other, letter-beyond, letter-capital, not-one, bytes-follow}
+use Rattle.models.specs.Refusals.{afterLines, LineAt, HasValue, CountLine, vars-line, rules-line, firstRuleLine, StateLine, init-line, prop-line, GivesCount, IsN, IsR, IsRuleLine, count-due, state-due, rule-due, ProperName, HasName, Expression, of-state, of-step, of-start, FitsAt, line-missing, count-wrong, name-improper, name-taken, length-wrong, byte-other, letter-beyond, letter-capital, not-one, bytes-follow}
 use Rattle.models.specs.Laws.Grounds.{unbroken-in-line, in-line-unbroken, Unfit, unfit-length, unfit-byte, unfit-letter, unfit-capital, unfit-form, unfit-late, Tried, tried-none, tried-some, expression-tried}
+use Rattle.models.specs.Laws.Parts.{UnfitParts, unfit-step, unfit-start, parts-late, parts-tried}
 
 -- ---- the lines of a text
 
@@ -64,7 +65,7 @@ data OnRule (text : List ℕ) (k : ℕ) : ℕ → Type 0 where
   rule-1 : ((v : List ℕ) → ¬ HasValue text k ruleKey v) → OnRule text k 1
   rule-3 : {v : List ℕ} → HasValue text k ruleKey v → ((name e : List ℕ) → ProperName name → v ≢ name ++ 58 ∷ e) → OnRule text k 3
   rule-4 : {j : ℕ} {name d e : List ℕ} → j < k → HasName text j name d → HasName text k name e → OnRule text k 4
-  rule-5 : {name e : List ℕ} {m : ℕ} → HasName text k name e → Unfit text true e m → OnRule text k m
+  rule-5 : {name e : List ℕ} {m : ℕ} → HasName text k name e → UnfitParts text e m → OnRule text k m
 
 data OnLine (text : List ℕ) : (number line : ℕ) → Type 0 where
   on-count : {m k most : ℕ} {key : List ℕ} → CountLine k key most → OnCount text k key most m → OnLine text m k
@@ -74,7 +75,8 @@ data OnLine (text : List ℕ) : (number line : ℕ) → Type 0 where
 
 on-expression : {text e : List ℕ} {m k : ℕ} {capitals : Bool} → Expression text k capitals e → Unfit text capitals e m → OnLine text m k
 on-expression (of-state c h) u = on-state c (state-5 h u)
-on-expression (of-rule n) u = on-rule (n .rule) (rule-5 n u)
+on-expression (of-step n p) u = on-rule (n .rule) (rule-5 n (unfit-step p u))
+on-expression (of-start n p d) u = on-rule (n .rule) (rule-5 n (unfit-start p d u))
 
 by-kind : {text : List ℕ} {m k : ℕ} → FitsAt text m k → OnLine text m k
 by-kind (line-missing (count-due c) f) = on-count c (count-1 f)
@@ -96,6 +98,10 @@ unfit-fits x (unfit-byte i f) = byte-other x i f
 unfit-fits x (unfit-letter n i l) = letter-beyond x n i l
 unfit-fits {text} {e} {k = k} x (unfit-capital c i l) = letter-capital (subst (λ t. Expression text k t e) c x) i l
 unfit-fits x (unfit-form f) = not-one x f
+
+parts-fit : {text name e : List ℕ} {m k : ℕ} → HasName text k name e → UnfitParts text e m → FitsAt text m k
+parts-fit n (unfit-step p u) = unfit-fits (of-step n p) u
+parts-fit n (unfit-start p d u) = unfit-fits (of-start n p d) u
 
 -- where the kinds of lines stand
 count-range : {k most : ℕ} {key : List ℕ} → CountLine k key most → Within 1 2 k
@@ -195,8 +201,8 @@ pub record TellsNames (text : List ℕ) (k : ℕ) (taken : List ℕ → Bool) : 
 abbrev pub nameFound : List ℕ → List ℕ
 nameFound s = take (prefix InName (valueOf ruleKey s)) (valueOf ruleKey s)
 
-abbrev pub expressionFound : List ℕ → List ℕ
-expressionFound s = drop (prefix InName (valueOf ruleKey s) + 1) (valueOf ruleKey s)
+abbrev pub partsFound : List ℕ → List ℕ
+partsFound s = drop (prefix InName (valueOf ruleKey s) + 1) (valueOf ruleKey s)
 
 name-there : (v : List ℕ) → isNamed v ≡ true → ProperName (take (prefix InName v) v)
 name-there v h = record { size = named-back v h .length-is; bytes = all-prefix InName v }
@@ -230,7 +236,7 @@ module _ (text : List ℕ) (k : ℕ) (s : List ℕ) (begins : afterLines (k - 1)
       let b = count-back most (valueOf key s) n q in
       record { value = subst (HasValue text k key) (b .1) (has-value key in-line l); range = record { atLeast = omega arith; atMost = b .0 } }
 
-  pub name-found : IsRuleLine text k → isLine ruleKey s ≡ true → isNamed (valueOf ruleKey s) ≡ true → HasName text k (nameFound s) (expressionFound s)
+  pub name-found : IsRuleLine text k → isLine ruleKey s ≡ true → isNamed (valueOf ruleKey s) ≡ true → HasName text k (nameFound s) (partsFound s)
   name-found c l h = record {
     rule = c;
     proper = name-there (valueOf ruleKey s) h;
@@ -296,25 +302,25 @@ module _ (text : List ℕ) (k : ℕ) (s : List ℕ) (begins : afterLines (k - 1)
     -- ---- a rule
 
     module _ (c : IsRuleLine text k) (taken : List ℕ → Bool) (tells : TellsNames text k taken) where
-      the-expression : {name e : List ℕ} → HasName text k name e → expressionFound s ≡ e
-      the-expression {name} {e} a =
+      the-parts : {name e : List ℕ} → HasName text k name e → partsFound s ≡ e
+      the-parts {name} {e} a =
           ap (λ v. drop (prefix InName v + 1) v) (the-value ruleKey ruleKey-in-line (a .value) .1)
-          ∙ named-there name e (a .proper .size) (a .proper .bytes) .step-is
+          ∙ named-there name e (a .proper .size) (a .proper .bytes) .parts-are
 
       past-rule : (number : ℕ) → (1 < number → isLine ruleKey s ≡ true) → (3 < number → isNamed (valueOf ruleKey s) ≡ true)
-          → (4 < number → taken (nameFound s) ≡ false) → ((m : ℕ) → m < number → ¬ Unfit text true (expressionFound s) m)
+          → (4 < number → taken (nameFound s) ≡ false) → ((m : ℕ) → m < number → ¬ UnfitParts text (partsFound s) m)
           → (m : ℕ) → m < number → ¬ FitsAt text m k
       past-rule number one three four fit m h f = go (rule-only c (by-kind f)) h
         where
           go : {m : ℕ} → OnRule text k m → m < number → ⊥
           go (rule-1 f) h = f (valueOf ruleKey s) (has-value ruleKey ruleKey-in-line (one h))
           go (rule-3 q f) h =
-              f (nameFound s) (expressionFound s) (name-there (valueOf ruleKey s) (three h))
+              f (nameFound s) (partsFound s) (name-there (valueOf ruleKey s) (three h))
               (sym (the-value ruleKey ruleKey-in-line q .1) ∙ named-back (valueOf ruleKey s) (three h) .text)
           go (rule-4 {j} {d = d} l a b) h =
               tells .free-there (nameFound s) (four h) j d l
               (subst (λ x. HasName text j x d) (one-name b (name-found c (one (omega arith)) (three (omega arith)))) a)
-          go (rule-5 {m = m} a u) h = fit m h (subst (λ e. Unfit text true e m) (sym (the-expression a)) u)
+          go (rule-5 {m = m} a u) h = fit m h (subst (λ e. UnfitParts text e m) (sym (the-parts a)) u)
 
       pub rule-judged : (at : ℕ) → RuleJudged text k s (ruleLine n taken at s)
       unfolding unlessFault
@@ -322,17 +328,17 @@ module _ (text : List ℕ) (k : ℕ) (s : List ℕ) (begins : afterLines (k - 1)
           by-rule n taken at s (RuleJudged text k s)
           (λ l.
           rule-refused (line-missing (rule-due c) (no-value ruleKey ruleKey-in-line l))
-          (past-rule 1 (λ k. absurd (omega arith)) (λ k. absurd (omega arith)) (λ k. absurd (omega arith)) (λ m k u. unfit-late (omega arith) u k)) (omega arith))
+          (past-rule 1 (λ k. absurd (omega arith)) (λ k. absurd (omega arith)) (λ k. absurd (omega arith)) (λ m k u. parts-late (omega arith) u k)) (omega arith))
           (λ l h.
           rule-refused (name-fails c l h)
-          (past-rule 3 (λ _. l) (λ k. absurd (omega arith)) (λ k. absurd (omega arith)) (λ m k u. unfit-late (omega arith) u k)) (omega arith))
+          (past-rule 3 (λ _. l) (λ k. absurd (omega arith)) (λ k. absurd (omega arith)) (λ m k u. parts-late (omega arith) u k)) (omega arith))
           (λ l h t.
           let w = tells .taken-there (nameFound s) t in
-          rule-refused (name-taken (w .1) (w .2 .1) (name-found c l h)) (past-rule 4 (λ _. l) (λ _. h) (λ k. absurd (omega arith)) (λ m k u. unfit-late (omega arith) u k)) (omega arith))
-          (λ l h t. go l h t (expression-tried text n isN (λ m q. one-count q isN) true (expressionFound s)))
+          rule-refused (name-taken (w .1) (w .2 .1) (name-found c l h)) (past-rule 4 (λ _. l) (λ _. h) (λ k. absurd (omega arith)) (λ m k u. parts-late (omega arith) u k)) (omega arith))
+          (λ l h t. go l h t (parts-tried text n isN (λ m q. one-count q isN) (partsFound s)))
         where
-          go : isLine ruleKey s ≡ true → isNamed (valueOf ruleKey s) ≡ true → taken (nameFound s) ≡ false → {number : ℕ} → Tried (Unfit text true (expressionFound s)) number
-              → RuleJudged text k s (unlessFault RuleFault number (RuleRead (partsAt at (prefix InName (valueOf ruleKey s))) (lineLength s + 1)))
+          go : isLine ruleKey s ≡ true → isNamed (valueOf ruleKey s) ≡ true → taken (nameFound s) ≡ false → {number : ℕ} → Tried (UnfitParts text (partsFound s)) number
+              → RuleJudged text k s (unlessFault RuleFault number (RuleRead (partsAt at (prefix InName (valueOf ruleKey s)) (partsFound s)) (lineLength s + 1)))
           go l h t (tried-none f) = rule-passed (λ m. past-rule (suc m) (λ _. l) (λ _. h) (λ _. t) (λ j _. f j) m (omega arith))
           go l h t (tried-some {number} u f) =
-              rule-refused (unfit-fits (of-rule (name-found c l h)) u) (past-rule (suc number) (λ _. l) (λ _. h) (λ _. t) f) (omega arith)
+              rule-refused (parts-fit (name-found c l h) u) (past-rule (suc number) (λ _. l) (λ _. h) (λ _. t) f) (omega arith)

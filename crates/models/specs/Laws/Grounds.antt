@@ -3,10 +3,10 @@
 use Prim.Native.Nat.{ℕ, zero, suc, _+_, _-_, _≤_, _<_}
 use mathlib.Core.Path.{_≡_, refl, sym, ap, _∙_, subst}
 use mathlib.Core.Logic.{_≢_, _⊎_, inl, inr, ⊎-elim}
-use mathlib.Core.Bool.{Bool, true, false, _&&_, and-false, and-eq-true-iff, false≢true}
+use mathlib.Core.Bool.{Bool, true, false, not, _&&_, and-false, and-eq-true-iff, false≢true}
 use mathlib.Core.List.{List, [], _∷_, _++_, List·Memᴰ, List·Memᴰ·head, List·Memᴰ·tail, Memᴰ·cast, Memᴰ·append-left, Memᴰ·append-right, List·Memᴰ·append-cases}
 use native.Mathlib.Omega.{arith}
-use borrow.Author.Tests.{eqb-true, le-leb, leb-true, le-ltb, ltb-false, not-false}
+use borrow.Author.Tests.{eq-eqb, eqb-true, le-leb, leb-true, le-ltb, ltb-false, not-false}
 use lib.Dec.{eqb, leb, ltb}
 use lib.ListN.{length, getD, drop, length-drop}
 use lib.Seq.{getD-drop}
@@ -18,7 +18,7 @@ use Rattle.exprs.specs.Expr.{Expr, written, Letters}
 use Rattle.exprs.specs.Token.{tokenOf}
 use Rattle.exprs.specs.Laws.Reading.{Spelt, spelt, back-now, back-next}
 use Rattle.lines.specs.declared.classes.Class.{Class}
-use Rattle.lines.specs.declared.classes.Class.the-variants.{InLine, InExpression, Allowed}
+use Rattle.lines.specs.declared.classes.Class.the-variants.{InLine, InPart, InExpression, Allowed}
 use Rattle.lines.specs.Bytes.{bytes, isToken, allowed, belongs, prefix}
 use Rattle.lines.specs.Lines.{all, isOne, faultOf}
 use Rattle.lines.specs.Written.{Within}
@@ -58,14 +58,31 @@ each c (x ∷ e) = go (belongs c x) refl (each c e)
 some-outside : (c : Class) (e : List ℕ) → all c e ≡ false → Outside c e
 some-outside c e h = ⊎-elim (λ a. absurd (false≢true (sym h ∙ a))) (λ o. o) (each c e)
 
--- a text without byte 10 is within a line
+-- the class of all other bytes than x holds the texts without x, and those alone
+module _ (x : ℕ) (others : Class) (is : (b : ℕ) → belongs others b ≡ not (eqb b x)) (l : List ℕ) where
+  lacking : ¬ List·Memᴰ x l → all others l ≡ true
+  lacking h =
+      ⊎-elim (λ a. a) (λ o. absurd (h (Memᴰ·cast (sym (eqb-true (o .0) x (not-false (eqb (o .0) x) (sym (is (o .0)) ∙ o .2)))) (o .1)))) (each others l)
+
+  lacks : all others l ≡ true → ¬ List·Memᴰ x l
+  lacks a m = false≢true (sym (is x ∙ ap not (eq-eqb x x refl)) ∙ all-each others a m)
+
+-- a text without byte 10 is within a line, and one without `:` within a part of a rule
 pub unbroken-in-line : (l : List ℕ) → ¬ List·Memᴰ 10 l → all InLine l ≡ true
 unfolding belongs
-unbroken-in-line l h = ⊎-elim (λ a. a) (λ o. absurd (h (Memᴰ·cast (sym (eqb-true (o .0) 10 (not-false (eqb (o .0) 10) (o .2)))) (o .1)))) (each InLine l)
+unbroken-in-line = lacking 10 InLine (λ b. refl)
 
 pub in-line-unbroken : (l : List ℕ) → all InLine l ≡ true → ¬ List·Memᴰ 10 l
 unfolding belongs
-in-line-unbroken l a m = false≢true (all-each InLine a m)
+in-line-unbroken = lacks 10 InLine (λ b. refl)
+
+pub undivided-in-part : (l : List ℕ) → ¬ List·Memᴰ 58 l → all InPart l ≡ true
+unfolding belongs
+undivided-in-part = lacking 58 InPart (λ b. refl)
+
+pub in-part-undivided : (l : List ℕ) → all InPart l ≡ true → ¬ List·Memᴰ 58 l
+unfolding belongs
+in-part-undivided = lacks 58 InPart (λ b. refl)
 
 -- ---- the letters
 
@@ -203,6 +220,16 @@ module _ (text : List ℕ) (capitals : Bool) (e : List ℕ) where
 pub data Tried (P : ℕ → Type 0) : ℕ → Type 0 where
   tried-none : ((m : ℕ) → ¬ P m) → Tried P 0
   tried-some : {number : ℕ} → P (suc number) → ((m : ℕ) → m < suc number → ¬ P m) → Tried P (suc number)
+
+-- the same numbers have the same first
+pub tried-as : {P Q : ℕ → Type 0} → ((m : ℕ) → P m → Q m) → ((m : ℕ) → Q m → P m) → {number : ℕ} → Tried P number → Tried Q number
+tried-as there back (tried-none f) = tried-none (λ m q. f m (back m q))
+tried-as there back (tried-some {number} p f) = tried-some (there (suc number) p) (λ m h q. f m h (back m q))
+
+-- where the first is 0 there is none
+pub untried : {P : ℕ → Type 0} {number : ℕ} → Tried P number → number ≡ 0 → (m : ℕ) → ¬ P m
+untried (tried-none f) z = f
+untried (tried-some p f) z = absurd (omega arith)
 
 module _ (text : List ℕ) (n : ℕ) (isN : IsN text n) (one-N : (m : ℕ) → IsN text m → m ≡ n) (capitals : Bool) (e : List ℕ) where
   -- numbers whose tests the expression has passed do not fit

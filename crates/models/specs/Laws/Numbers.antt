@@ -13,13 +13,14 @@ use Rattle.sets.specs.Joint.{Each}
 use Rattle.sets.specs.Laws.Choice.{by-test}
 use Rattle.lines.specs.declared.classes.Class.the-variants.{InExpression, Allowed}
 use Rattle.slices.specs.Same.{same}
-use Rattle.lines.specs.Lines.{varsKey, rulesKey, initKey, propKey, ruleKey, isLine, valueOf, countIn, all, isOne}
-use Rattle.rule_lines.specs.RuleLines.{isNamed}
+use Rattle.lines.specs.Lines.{varsKey, rulesKey, initKey, propKey, ruleKey, isLine, valueOf, countIn, all, isOne, faultOf}
+use Rattle.rule_lines.specs.RuleLines.{isNamed, stepLength}
 use Rattle.slices.specs.Laws.Same.{same-is}
 use Rattle.rule_lines.specs.Laws.RuleLines.{ruleKey-in-line}
-use Rattle.models.specs.Refusals.{afterLines, CountLine, vars-line, rules-line, firstRuleLine, StateLine, init-line, prop-line, GivesCount, IsN, IsR, IsRuleLine, count-due, state-due, rule-due, HasName, Expression, of-state, of-rule, FitsAt, line-missing, name-taken, bytes-follow}
+use Rattle.models.specs.Refusals.{afterLines, CountLine, vars-line, rules-line, firstRuleLine, StateLine, init-line, prop-line, GivesCount, IsN, IsR, IsRuleLine, count-due, state-due, rule-due, HasName, Expression, of-state, of-step, of-start, FitsAt, line-missing, name-taken, bytes-follow}
 use Rattle.models.specs.Laws.Grounds.{length-fails, byte-fails, letter-fails, form-fails}
-use Rattle.models.specs.Laws.Fitting.{unfit-fits, count-key, state-key, nameFound, expressionFound, has-value, no-value, gives-there, count-fails, name-found, name-fails}
+use Rattle.models.specs.Laws.Parts.{stepFound, hasStart, startFound, both-found, step-found, passed-there}
+use Rattle.models.specs.Laws.Fitting.{unfit-fits, count-key, state-key, nameFound, partsFound, has-value, no-value, gives-there, count-fails, name-found, name-fails}
 
 -- ---- lists of numbers
 
@@ -67,12 +68,18 @@ nameAmong text first (suc j) name =
     let s = afterLines (first + j - 1) text in
     nameAmong text first j name || (isLine ruleKey s && (isNamed (valueOf ruleKey s) && same (nameFound s) name))
 
+-- those of the step part, and after this has passed those of the start part
+unfoldable pub partNumbers : ℕ → List ℕ → List ℕ
+unfolding expressionNumbers stepLength faultOf
+partNumbers n e =
+    expressionNumbers n true (stepFound e) ++ cond (hasStart e && eqb (faultOf n true (stepFound e)) 0) (expressionNumbers n false (startFound e)) []
+
 unfoldable pub ruleNumbers : List ℕ → ℕ → ℕ → ℕ → List ℕ → List ℕ
-unfolding nameAmong expressionNumbers unless isLine valueOf isNamed
+unfolding nameAmong partNumbers unless isLine valueOf isNamed
 ruleNumbers text first n i s =
     cond (isLine ruleKey s)
     (cond (isNamed (valueOf ruleKey s))
-    (unless (not (nameAmong text first i (nameFound s))) 4 ++ expressionNumbers n true (expressionFound s))
+    (unless (not (nameAmong text first i (nameFound s))) 4 ++ partNumbers n (partsFound s))
     (3 ∷ []))
     (1 ∷ [])
 
@@ -142,7 +149,7 @@ module _ (text : List ℕ) (r : ℕ) (isR : IsR text r) (name : List ℕ) where
           let l = and-eq-true-iff (isLine ruleKey s) (isNamed (valueOf ruleKey s) && same (nameFound s) name) .0 t in
           let n = and-eq-true-iff (isNamed (valueOf ruleKey s)) (same (nameFound s) name) .0 (l .1) in
           let rule : IsRuleLine text k = record { R = r; count = isR; least = omega arith; most = omega arith } in
-          (j, omega arith, (expressionFound s, subst (λ x. HasName text k x (expressionFound s)) (same-is (nameFound s) name (n .1)) (name-found text k s refl rule (l .0) (n .0))))
+          (j, omega arith, (partsFound s, subst (λ x. HasName text k x (partsFound s)) (same-is (nameFound s) name (n .1)) (name-found text k s refl rule (l .0) (n .0))))
 
 -- the number fits at line k
 abbrev At : List ℕ → ℕ → ℕ → Type 0
@@ -173,16 +180,26 @@ module _ (text : List ℕ) (k : ℕ) (s : List ℕ) (begins : afterLines (k - 1)
         (λ l. each-expression false (valueOf key s) (of-state c (has-value text k s begins key (state-key c) l)))
         (λ f. each-one (At text k) 1 (line-missing (state-due c) (no-value text k s begins key (state-key c) f)))
 
+    each-part : {name : List ℕ} (e : List ℕ) → HasName text k name e → Each (At text k) (partNumbers n e)
+    unfolding partNumbers
+    each-part e a =
+        each-joined (At text k) (expressionNumbers n true (stepFound e)) _ (each-expression true (stepFound e) (of-step a (step-found e .1)))
+        (by-test (Each (At text k)) (hasStart e && eqb (faultOf n true (stepFound e)) 0)
+        (λ h.
+        let b = and-eq-true-iff (hasStart e) (eqb (faultOf n true (stepFound e)) 0) .0 h in
+        each-expression false (startFound e) (of-start a (both-found e (b .0)) (passed-there text n isN (eqb-true _ 0 (b .1)))))
+        (λ _. each-none (At text k)))
+
     each-rule : (i : ℕ) → k ≡ firstRuleLine text + i → IsRuleLine text k → Each (At text k) (ruleNumbers text (firstRuleLine text) n i s)
     unfolding ruleNumbers
     each-rule i at c =
         by-test (Each (At text k)) (isLine ruleKey s) (λ l.
         by-test (Each (At text k)) (isNamed (valueOf ruleKey s)) (λ h.
-        each-joined (At text k) (unless (not (nameAmong text (firstRuleLine text) i (nameFound s))) 4) (expressionNumbers n true (expressionFound s))
+        each-joined (At text k) (unless (not (nameAmong text (firstRuleLine text) i (nameFound s))) 4) (partNumbers n (partsFound s))
         (each-unless (At text k) _ 4 (λ t.
         let w = name-among text (c .R) (c .count) (nameFound s) i (omega (arith, c .most)) (not-false (nameAmong text (firstRuleLine text) i (nameFound s)) t) in
         name-taken (omega (arith, w .1)) (w .2 .1) (name-found text k s begins c l h)))
-        (each-expression true (expressionFound s) (of-rule (name-found text k s begins c l h))))
+        (each-part (partsFound s) (name-found text k s begins c l h)))
         (λ h. each-one (At text k) 3 (name-fails text k s begins c l h)))
         (λ f. each-one (At text k) 1 (line-missing (rule-due c) (no-value text k s begins ruleKey ruleKey-in-line f)))
 

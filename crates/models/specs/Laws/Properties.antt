@@ -87,13 +87,13 @@ count-there n h (e ∷ es) a b l rest f =
 
 room-line : (j : ℕ) (r : Progress) {s : List ℕ} {most : ℕ} {l : Line} → Heard s most l → PlaceArrays r → PlaceArrays (propertied j r l)
 unfolding propertied
-room-line j r (fault number w) h = record { props = h .props; names = h .names; steps = h .steps }
-room-line j r (said w) h = record { props = length-set (r .props) j _ ∙ h .props; names = h .names; steps = h .steps }
+room-line j r (fault number w) h = record { props = h .props; names = h .names; steps = h .steps; starts = h .starts }
+room-line j r (said w) h = record { props = length-set (r .props) j _ ∙ h .props; names = h .names; steps = h .steps; starts = h .starts }
 
 pub properties-room : (text : List ℕ) (n : ℕ) (p : LineStart) (j : ℕ) → PlaceArrays (propertiesRead text n p j)
 unfolding propertiesRead nextProperty noneRead
 properties-room text n p zero =
-    record { props = length-replicate {A = ℕ} 4 0; names = length-replicate {A = ℕ} 16 0; steps = length-replicate {A = ℕ} 16 0 }
+    record { props = length-replicate {A = ℕ} 4 0; names = length-replicate {A = ℕ} 16 0; steps = length-replicate {A = ℕ} 16 0; starts = length-replicate {A = ℕ} 16 0 }
 properties-room text n p (suc j) =
     let r = propertiesRead text n p j in
     by-test {A = Progress} PlaceArrays (eqb (r .number) 0)

@@ -11,14 +11,13 @@ use native.Mathlib.Numerals.{add-one}
 use borrow.Author.Tests.{eq-eqb, ne-eqb}
 use lib.ListN.{length, drop, drop-of-length-le, length-drop}
 use lib.Seq.{drop-cons, drop-drop}
-use Rattle.exprs.specs.Expr.{written}
 use Rattle.lines.specs.declared.classes.Class.the-variants.{InLine}
 use Rattle.lines.specs.declared.line.Line.{Line}
 use Rattle.rule_lines.specs.declared.names.RuleLine.{RuleLine}
 use Rattle.slices.specs.Same.{same}
 use Rattle.lines.specs.Lines.{varsKey, rulesKey, initKey, propKey, ruleKey, lineLength, all}
 use Rattle.rule_lines.specs.RuleLines.{nameOf, isTaken}
-use Rattle.lines.specs.Written.{Rule, LegalRule, writtenRule}
+use Rattle.lines.specs.Written.{Rule, LegalRule, writtenParts, writtenRule}
 use Rattle.lines.specs.Laws.Bytes.{all-append}
 use Rattle.slices.specs.Laws.Same.{same-is}
 use Rattle.lines.specs.Laws.Lines.{line-append}
@@ -117,11 +116,11 @@ following-right text p Says next st clear (line-passed {v} s none) go =
 
 -- the line of a legal rule, with its byte 10
 rule-line-is : (n : ℕ) → n ≤ 7 → (r : Rule) → LegalRule n r → (rest : List ℕ)
-    → (writtenRule r ++ rest ≡ (ruleKey ++ (r .name ++ 58 ∷ written (r .step))) ++ 10 ∷ rest)
-    × (all InLine (ruleKey ++ (r .name ++ 58 ∷ written (r .step))) ≡ true)
+    → (writtenRule r ++ rest ≡ (ruleKey ++ (r .name ++ 58 ∷ writtenParts r)) ++ 10 ∷ rest)
+    × (all InLine (ruleKey ++ (r .name ++ 58 ∷ writtenParts r)) ≡ true)
 unfolding writtenRule
 rule-line-is n h r l rest =
-    let v : List ℕ = r .name ++ 58 ∷ written (r .step) in
+    let v : List ℕ = r .name ++ 58 ∷ writtenParts r in
     (line-append ruleKey v rest ∙ sym (append-assoc ruleKey v (10 ∷ rest)), all-append InLine ruleKey v ∙ ap₂ _&&_ ruleKey-in-line (rule-in-line n r h l))
 
 after-rules : (n : ℕ) → n ≤ 7 → (rs : List Rule) → ((j : ℕ) → j < length rs → LegalRule n (ruleAt rs j)) → (rest : List ℕ) (j : ℕ) → j ≤ length rs
@@ -134,7 +133,7 @@ after-rules n h (r ∷ rs) l rest (suc j) b =
     let more : List ℕ = flatMap writtenRule rs ++ rest in
     let w = rule-line-is n h r (l 0 (omega arith)) more in
     ap (λ x. afterLines j (afterLine x)) (append-assoc (writtenRule r) (flatMap writtenRule rs) rest ∙ w .0)
-    ∙ ap (afterLines j) (line-seam (ruleKey ++ (r .name ++ 58 ∷ written (r .step))) more (w .1))
+    ∙ ap (afterLines j) (line-seam (ruleKey ++ (r .name ++ 58 ∷ writtenParts r)) more (w .1))
     ∙ after-rules n h rs (λ i k. l (suc i) (omega arith)) rest j (omega arith)
 
 is-taken : (text names steps name : List ℕ) (i : ℕ) → isTaken text names steps i name ≡ true → (j : ℕ) × (j < i) × (nameOf text names steps j ≡ name)
@@ -214,7 +213,7 @@ module _ (text : List ℕ) (n R : ℕ) (isN : IsN text n) (isR : IsR text R) (be
         let rest : List ℕ = drop (r .place .at) text in
         let w = rule-line-is n few rule (u .legal .each j k) (others ++ rest) in
         let lines : firstRuleLine text + j - 1 ≡ before .place .line - 1 + j = omega (arith, st .least) in (
-          written (rule .step),
+          writtenParts rule,
           record {
             rule = record { R = R; count = isR; least = omega arith; most = omega arith };
             proper = rw (u .upto .located j k .name-is) (record { size = u .legal .each j k .nameLength; bytes = u .legal .each j k .nameBytes });

@@ -1,29 +1,31 @@
 -- The rule lines of a model text, one after the other: reading them finds exactly written forms of legal rules, of which no two have the same name,
--- and each name and each expression at its place. From the law of one rule line, by induction on the number of lines.
+-- and each name and each part at its place. From the law of one rule line, by induction on the number of lines.
 use Prim.Native.Nat.{ℕ, zero, suc, _+_, _-_, _≤_, _<_}
 use mathlib.Core.Path.{_≡_, refl, sym, ap, ap₂, _∙_, subst, subst₂}
 use mathlib.Core.Logic.{_≢_}
 use mathlib.Core.Bool.{Bool, false, _||_, false≢true}
 use mathlib.Mathlib.Data.Bool.Basic.{or-eq-false-eq-eq-false-and-eq-false}
 use mathlib.Core.List.{List, [], _∷_, _++_, append-assoc, flatMap}
+use mathlib.Core.Option.{Option, none, some}
 use native.Mathlib.Omega.{arith}
 use native.Mathlib.Decide.{decLt}
 use borrow.Author.Tests.{eq-eqb, eqb-true, eqb-false}
 use lib.Dec.{eqb}
 use lib.ListN.{length, getD, take, drop, set, length-append, length-set, List·getD-append}
-use lib.Seq.{take-suc, take-length, take-append-seam, getD-set-same, getD-set-other, getD-take, length-take-le}
+use lib.Seq.{take-suc, take-length, take-append-seam, drop-append-add, getD-set-same, getD-set-other, getD-take, length-take-le}
 use Rattle.sets.specs.Laws.Choice.{by-test}
-use Rattle.exprs.specs.Expr.{written}
+use Rattle.exprs.specs.Expr.{Expr, written}
 use Rattle.rule_lines.specs.declared.names.RuleLine.{RuleLine}
 use Rattle.rule_lines.specs.declared.names.RuleLine.the-variants.{RuleRead}
 use Rattle.rule_lines.specs.declared.names.RuleParts.{RuleParts}
 use Rattle.slices.specs.Same.{same}
 use Rattle.lines.specs.Lines.{ruleKey}
-use Rattle.rule_lines.specs.RuleLines.{partsAt, ruleLine, nameOf, isTaken}
-use Rattle.lines.specs.Written.{Rule, LegalRule, writtenRule}
+use Rattle.rule_lines.specs.RuleLines.{stepLength, startFrom, partsAt, ruleLine, nameOf, isTaken}
+use Rattle.lines.specs.Written.{Rule, LegalRule, writtenStart, writtenParts, writtenRule}
 use Rattle.slices.specs.Laws.Same.{same-true, same-false}
 use Rattle.rule_lines.specs.Laws.Heard.{RuleHeard, rule-fault, rule-said, rule-heard}
 use Rattle.lines.specs.Laws.Lines.{line-append}
+use Rattle.rule_lines.specs.Laws.Parts.{startBehind, parts-there}
 use Rattle.rule_lines.specs.Laws.RuleLines.{rule-reads}
 use Rattle.models.specs.declared.progress.Progress.{Progress}
 use Rattle.models.specs.Reading.{unlessRefused, ruled, nextRule, rulesRead}
@@ -71,41 +73,59 @@ legal-more n rs rule l r f = record {
       (λ i k. rw (List·getD-append rs (rule ∷ []) _ i k) (f i k));
 }
 
--- The name and the expression of rule j stand at the places that are given for them.
-pub record Located (text names steps : List ℕ) (j : ℕ) (rule : Rule) : Type 0 where
+-- s, which begins with a step part, has the start part so many bytes behind; or there is none, and the number is 0.
+pub data StartStands (s : List ℕ) : Option Expr → ℕ → Type 0 where
+  no-start : StartStands s none 0
+  some-start : {e : Expr} {bytes : ℕ} (rest : List ℕ) → 0 < bytes → drop bytes s ≡ written e ++ rest → StartStands s (some e) bytes
+
+-- it stands behind the second `:`
+start-behind : (step : Expr) (start : Option Expr) (s rest : List ℕ) → s ≡ written step ++ (writtenStart start ++ rest) → StartStands s start (startBehind step start)
+unfolding writtenStart
+start-behind step none s rest q = no-start
+start-behind step (some e) s rest q =
+    some-start {bytes = length (written step) + 1} rest (omega arith) (ap (drop (length (written step) + 1)) q ∙ drop-append-add (written step) (58 ∷ (written e ++ rest)) 1)
+
+-- The name and the parts of rule j stand at the places that are given for them.
+pub record Located (text names steps starts : List ℕ) (j : ℕ) (rule : Rule) : Type 0 where
   pub name-is : nameOf text names steps j ≡ rule .name
   pub rest : List ℕ
   pub step-is : drop (getD steps j 0) text ≡ written (rule .step) ++ rest
+  pub start-is : StartStands (drop (getD steps j 0) text) (rule .start) (getD starts j 0)
 
-rule-append : (r : Rule) (rest : List ℕ) → writtenRule r ++ rest ≡ ruleKey ++ (r .name ++ 58 ∷ (written (r .step) ++ 10 ∷ rest))
+rule-append : (r : Rule) (rest : List ℕ) → writtenRule r ++ rest ≡ ruleKey ++ (r .name ++ 58 ∷ (writtenParts r ++ 10 ∷ rest))
 unfolding writtenRule
-rule-append r rest = line-append ruleKey (r .name ++ 58 ∷ written (r .step)) rest ∙ ap (λ x. ruleKey ++ x) (append-assoc (r .name) (58 ∷ written (r .step)) (10 ∷ rest))
+rule-append r rest = line-append ruleKey (r .name ++ 58 ∷ writtenParts r) rest ∙ ap (λ x. ruleKey ++ x) (append-assoc (r .name) (58 ∷ writtenParts r) (10 ∷ rest))
 
-module _ (text names steps : List ℕ) (i name step : ℕ) where
+module _ (text names steps starts : List ℕ) (i name step start : ℕ) where
   -- a rule that is told keeps its place when another is added
-  located-other : (j : ℕ) (rule : Rule) → j ≢ i → Located text names steps j rule → Located text (set names i name) (set steps i step) j rule
+  located-other : (j : ℕ) (rule : Rule) → j ≢ i → Located text names steps starts j rule → Located text (set names i name) (set steps i step) (set starts i start) j rule
   unfolding nameOf
   located-other j rule h l = record {
     name-is = rw (getD-set-other names i j name 0 h, getD-set-other steps i j step 0 h) (l .name-is);
     rest = l .rest;
     step-is = rw (getD-set-other steps i j step 0 h) (l .step-is);
+    start-is = rw (getD-set-other steps i j step 0 h, getD-set-other starts i j start 0 h) (l .start-is);
   }
 
-  -- the rule that is added has its name behind `rule=` and its expression behind `:`
-  located-new : (at : ℕ) (rule : Rule) (rest : List ℕ) → i < length names → i < length steps → name ≡ at + 5 → step ≡ at + (6 + length (rule .name))
-      → drop at text ≡ writtenRule rule ++ rest → Located text (set names i name) (set steps i step) i rule
-  unfolding nameOf
-  located-new at rule rest k l p q w =
-      let value : List ℕ = written (rule .step) ++ 10 ∷ rest in
+  -- the rule that is added has its name behind `rule=`, its step part behind `:`, and its start part so far behind that
+  located-new : (at : ℕ) (rule : Rule) (rest : List ℕ) → i < length names → i < length steps → i < length starts
+      → name ≡ at + 5 → step ≡ at + (6 + length (rule .name)) → start ≡ startBehind (rule .step) (rule .start)
+      → drop at text ≡ writtenRule rule ++ rest → Located text (set names i name) (set steps i step) (set starts i start) i rule
+  unfolding nameOf writtenParts
+  located-new at rule rest k l m p q b w =
+      let value : List ℕ = writtenParts rule ++ 10 ∷ rest in
       let named : drop name text ≡ rule .name ++ 58 ∷ value = ap (λ x. drop x text) p ∙ behind text at ruleKey (rule .name ++ 58 ∷ value) (w ∙ rule-append rule rest) in
       let size : step - 1 - name ≡ length (rule .name) = omega arith in
       let place : step ≡ name + length (rule .name ++ 58 ∷ []) = omega (arith, length-append (rule .name) (58 ∷ [])) in
+      let parts : drop step text ≡ written (rule .step) ++ (writtenStart (rule .start) ++ 10 ∷ rest) =
+      ap (λ x. drop x text) place
+      ∙ behind text name (rule .name ++ 58 ∷ []) value (named ∙ sym (append-assoc (rule .name) (58 ∷ []) value))
+      ∙ append-assoc (written (rule .step)) (writtenStart (rule .start)) (10 ∷ rest) in
       record {
         name-is = rw (getD-set-same names i name 0 k, getD-set-same steps i step 0 l, size, named) (take-append-seam (rule .name) (58 ∷ value));
-        rest = 10 ∷ rest;
-        step-is =
-            rw (getD-set-same steps i step 0 l, place)
-            (behind text name (rule .name ++ 58 ∷ []) value (named ∙ sym (append-assoc (rule .name) (58 ∷ []) value)));
+        rest = writtenStart (rule .start) ++ 10 ∷ rest;
+        step-is = rw (getD-set-same steps i step 0 l) parts;
+        start-is = rw (getD-set-same steps i step 0 l, getD-set-same starts i start 0 m, b) (start-behind (rule .step) (rule .start) (drop step text) (10 ∷ rest) parts);
       }
 
 -- The arrays have an entry for each part that there can be.
@@ -113,6 +133,7 @@ pub record PlaceArrays (r : Progress) : Type 0 where
   pub props : length (r .props) ≡ 4
   pub names : length (r .names) ≡ 16
   pub steps : length (r .steps) ≡ 16
+  pub starts : length (r .starts) ≡ 16
 
 -- Reading the rules rs, whose lines follow what was read before, gives r.
 pub record Upto (text : List ℕ) (before : Progress) (rs : List Rule) (r : Progress) : Type 0 where
@@ -121,7 +142,7 @@ pub record Upto (text : List ℕ) (before : Progress) (rs : List Rule) (r : Prog
   pub lines : drop (before .place .at) text ≡ flatMap writtenRule rs ++ drop (r .place .at) text
   pub room : PlaceArrays r
   pub props : r .props ≡ before .props
-  pub located : (j : ℕ) → j < length rs → Located text (r .names) (r .steps) j (ruleAt rs j)
+  pub located : (j : ℕ) → j < length rs → Located text (r .names) (r .steps) (r .starts) j (ruleAt rs j)
 
 upto-none : (text : List ℕ) (before : Progress) → PlaceArrays before → before .number ≡ 0 → Upto text before [] before
 unfolding flatMap
@@ -135,36 +156,44 @@ upto-none text before room z = record {
 }
 
 upto-more : (text : List ℕ) (before : Progress) (rs : List Rule) (r : Progress) (rule : Rule) (rest : List ℕ) → Upto text before rs r → length rs < 16
+    → startFrom (stepLength (writtenParts rule)) (writtenParts rule) ≡ startBehind (rule .step) (rule .start)
     → drop (r .place .at) text ≡ writtenRule rule ++ rest
-    → Upto text before (rs ++ rule ∷ []) (ruled (length rs) r (RuleRead (partsAt (r .place .at) (length (rule .name))) (length (writtenRule rule))))
-unfolding ruled
-upto-more text before rs r rule rest u h q =
+    → Upto text before (rs ++ rule ∷ []) (ruled (length rs) r (RuleRead (partsAt (r .place .at) (length (rule .name)) (writtenParts rule)) (length (writtenRule rule))))
+unfolding ruled partsAt
+upto-more text before rs r rule rest u h b q =
     let w : List ℕ = writtenRule rule in
     let front : List ℕ = flatMap writtenRule rs in
     let i : ℕ = length rs in
     let name : ℕ = r .place .at + 5 in
     let step : ℕ = r .place .at + (6 + length (rule .name)) in
+    let start : ℕ = startFrom (stepLength (writtenParts rule)) (writtenParts rule) in
     let joined : flatMap writtenRule (rs ++ rule ∷ []) ≡ front ++ w = flatMap-more writtenRule rs rule in
     record {
       number = refl;
       place = omega (arith, u .place, ap length joined, length-append front w);
       lines = one-behind text (r .place .at) (drop (before .place .at) text) front w rest (u .lines) q ∙ ap (λ x. x ++ drop (r .place .at + length w) text) (sym joined);
-      room = record { props = u .room .props; names = length-set (r .names) i name ∙ u .room .names; steps = length-set (r .steps) i step ∙ u .room .steps };
+      room = record {
+        props = u .room .props;
+        names = length-set (r .names) i name ∙ u .room .names;
+        steps = length-set (r .steps) i step ∙ u .room .steps;
+        starts = length-set (r .starts) i start ∙ u .room .starts;
+      };
       props = u .props;
-      located = at-more (Located text (set (r .names) i name) (set (r .steps) i step)) _ rs rule
-          (λ j k. located-other text (r .names) (r .steps) i name step j (ruleAt rs j) (omega arith) (u .located j k))
-          (located-new text (r .names) (r .steps) i name step (r .place .at) rule rest (omega (arith, u .room .names)) (omega (arith, u .room .steps)) refl refl q);
+      located = at-more (Located text (set (r .names) i name) (set (r .steps) i step) (set (r .starts) i start)) _ rs rule
+          (λ j k. located-other text (r .names) (r .steps) (r .starts) i name step start j (ruleAt rs j) (omega arith) (u .located j k))
+          (located-new text (r .names) (r .steps) (r .starts) i name step start (r .place .at) rule rest
+          (omega (arith, u .room .names)) (omega (arith, u .room .steps)) (omega (arith, u .room .starts)) refl refl b q);
     }
 
 -- one more rule line is read
 upto-next : (text : List ℕ) (n : ℕ) (before : Progress) (rs : List Rule) (r : Progress) (rule : Rule) (rest : List ℕ) → n ≤ 7 → Upto text before rs r → length rs < 16
     → LegalRule n rule → New rs rule → drop (r .place .at) text ≡ writtenRule rule ++ rest
     → Upto text before (rs ++ rule ∷ []) (nextRule text n (length rs) r)
-unfolding nextRule
+unfolding nextRule writtenParts
 upto-next text n before rs r rule rest b u h l f q =
     let taken : List ℕ → Bool = isTaken text (r .names) (r .steps) (length rs) in
     let free : taken (rule .name) ≡ false = not-taken text (r .names) (r .steps) (rule .name) (length rs) (λ j k e. f j k (sym (u .located j k .name-is) ∙ e)) in
-    rw (eq-eqb (r .number) 0 (u .number), ap (ruleLine n taken (r .place .at)) q ∙ rule-reads n b taken (r .place .at) .there rule (l, free) rest) (upto-more text before rs r rule rest u h q)
+    rw (eq-eqb (r .number) 0 (u .number), ap (ruleLine n taken (r .place .at)) q ∙ rule-reads n b taken (r .place .at) .there rule (l, free) rest) (upto-more text before rs r rule rest u h (parts-there n b (rule .step) (l .step) (rule .start) (l .start) .start-from) q)
 
 -- What the reading of the first i rule lines has found.
 pub record Ruled (text : List ℕ) (n : ℕ) (before : Progress) (i : ℕ) (r : Progress) : Type 0 where

@@ -4,7 +4,7 @@ use Prim.Native.Nat.{ℕ, zero, suc, _+_, _*_, _≤_, _<_}
 use mathlib.Core.Path.{_≡_, refl, sym, ap, _∙_, subst}
 use mathlib.Core.Bool.{Bool, true, false}
 use mathlib.Core.List.{List, [], _∷_, _++_, append-nil, append-assoc, flatMap}
-use mathlib.Core.Option.{some}
+use mathlib.Core.Option.{Option, none, some}
 use native.Mathlib.Omega.{arith}
 use lib.ListN.{length, getD, drop, length-append, drop-of-length-le}
 use Rattle.sets.specs.Laws.Tabulated.{length-tabulate, getD-tabulate, tabulated}
@@ -16,7 +16,7 @@ use Rattle.lines.specs.declared.line.Line.the-variants.{Fault, Read}
 use Rattle.lines.specs.Decimal.{decimal}
 use Rattle.lines.specs.Lines.{varsKey, rulesKey, initKey, propKey, ruleKey, startsWith, countLine, stateLine}
 use Rattle.rule_lines.specs.RuleLines.{nameOf}
-use Rattle.lines.specs.Written.{Rule, Within, LegalExpr, LegalRule, line, writtenRule}
+use Rattle.lines.specs.Written.{Rule, Within, LegalExpr, LegalStart, LegalRule, line, writtenStart, writtenParts, writtenRule}
 use Rattle.lines.specs.Laws.Decimal.{decimal-short}
 use Rattle.lines.specs.Laws.Expressions.{letters-more}
 use Rattle.lines.specs.Laws.Lines.{Reads, vars-reads, rules-reads, init-reads, line-append, length-line}
@@ -27,11 +27,11 @@ use Rattle.models.specs.declared.model.Reading.{Reading}
 use Rattle.models.specs.declared.progress.Progress.{Progress}
 use Rattle.models.specs.Properties.{propertyCount}
 use Rattle.models.specs.Reading.{textStart, behindLine, propertiesRead, nextRule, rulesRead, refusedReading, following, onLine, finished, readModel}
-use Rattle.models.specs.Written.{Described, propertyAt, ruleAt, Legal, writtenProperty, writtenModel, orFalse, exprAt, propertyIn, ruleIn, described}
+use Rattle.models.specs.Written.{Described, propertyAt, ruleAt, Legal, writtenProperty, writtenModel, orFalse, exprAt, propertyIn, startAt, ruleIn, described}
 use Rattle.models.specs.Laws.Finished.{last-numbers, by-last}
 use Rattle.models.specs.Laws.Ranges.{place₂, place₃, place₄, properties-le, properties-some}
 use Rattle.models.specs.Laws.Lists.{behind}
-use Rattle.models.specs.Laws.Rules.{LegalRules, Upto, unnumbered, rules-back, rules-there}
+use Rattle.models.specs.Laws.Rules.{StartStands, no-start, some-start, LegalRules, Upto, unnumbered, rules-back, rules-there}
 use Rattle.models.specs.Laws.Properties.{LegalEach, count-there, rule-no-property, properties-room, Stated, properties-back, properties-there}
 
 -- ---- the model of a text whose parts stand at given places
@@ -52,7 +52,8 @@ pub described-property : (text : List ℕ) (m : Model) (j : ℕ) → j < m .prop
 unfolding described
 described-property text m j h = getD-tabulate (m .properties) (propertyIn text m) _ j h
 
--- the reading r of the text finds the parts of the model M: N, R, how many properties there are, and at their places the expressions and the names
+-- the reading r of the text finds the parts of the model M: N, R, how many properties there are, and at their places the expressions, the names and the
+-- parts of the rules
 pub record Finds (text : List ℕ) (M : Described) (r : Reading) : Type 0 where
   pub accepted : r .outcome ≡ Accepted
   pub vars : r .model .vars ≡ M .vars
@@ -61,14 +62,15 @@ pub record Finds (text : List ℕ) (M : Described) (r : Reading) : Type 0 where
   pub properties : r .model .properties ≡ length (M .props)
   pub props : (j : ℕ) → j < length (M .props) → readExpr (drop (getD (r .model .props) j 0) text) ≡ some (propertyAt (M .props) j)
   pub steps : (i : ℕ) → i < length (M .rules) → readExpr (drop (getD (r .model .steps) i 0) text) ≡ some (ruleAt (M .rules) i .step)
+  pub starts : (i : ℕ) → i < length (M .rules) → startAt text (getD (r .model .steps) i 0) (getD (r .model .starts) i 0) ≡ ruleAt (M .rules) i .start
   pub names : (i : ℕ) → i < length (M .rules) → nameOf text (r .model .names) (r .model .steps) i ≡ ruleAt (M .rules) i .name
 
 read-at : (text : List ℕ) (at : ℕ) (e : Expr) → readExpr (drop at text) ≡ some e → e ≡ exprAt text at
 unfolding exprAt orFalse
 read-at text at e q = sym (ap orFalse q)
 
-same-rule : {r s : Rule} → r .name ≡ s .name → r .step ≡ s .step → r ≡ s
-same-rule p q i = record { name = p i; step = q i }
+same-rule : {r s : Rule} → r .name ≡ s .name → r .step ≡ s .step → r .start ≡ s .start → r ≡ s
+same-rule p q t i = record { name = p i; step = q i; start = t i }
 
 same-parts : {M N : Described} → M .vars ≡ N .vars → M .init ≡ N .init → M .props ≡ N .props → M .rules ≡ N .rules → M ≡ N
 same-parts a b c d i = record { vars = a i; init = b i; props = c i; rules = d i }
@@ -83,7 +85,7 @@ found-is-described text M r f =
     read-at text (getD (m .props) j 0) (propertyAt (M .props) j) (f .props j (rw (f .properties) at h))))
     (tabulated (m .rules) (ruleIn text m) _ (M .rules) (sym (f .rules)) (λ i h.
     let k : i < length (M .rules) = rw (f .rules) at h in
-    same-rule (sym (f .names i k)) (read-at text (getD (m .steps) i 0) (ruleAt (M .rules) i .step) (f .steps i k))))
+    same-rule (sym (f .names i k)) (read-at text (getD (m .steps) i 0) (ruleAt (M .rules) i .step) (f .steps i k)) (sym (f .starts i k))))
 
 -- ---- the lines before the rules
 
@@ -180,6 +182,15 @@ module _ (n : ℕ) (h : n ≤ 7) (capitals : Bool) (e : Expr) (l : LegalExpr n c
   line-read : (text : List ℕ) (at : ℕ) (key rest : List ℕ) → drop at text ≡ line key (written e) ++ rest → readExpr (drop (at + length key) text) ≡ some e
   line-read text at key rest q = legal-read (drop (at + length key) text) (10 ∷ rest) (behind text at key (written e ++ 10 ∷ rest) (q ∙ line-append key (written e) rest))
 
+-- the start part of a legal rule is the one that stands behind its step part
+start-read : (n : ℕ) → n ≤ 7 → (start : Option Expr) → LegalStart n start → (text : List ℕ) (step bytes : ℕ) → StartStands (drop step text) start bytes
+    → startAt text step bytes ≡ start
+unfolding startAt
+start-read n h none l text step zero no-start = refl
+start-read n h (some e) l text step zero (some-start rest b q) = absurd (omega arith)
+start-read n h (some e) l text step (suc bytes) (some-start rest b q) =
+    ap some (sym (read-at (drop step text) (suc bytes) e (legal-read n h false e l (drop (suc bytes) (drop step text)) rest q)))
+
 -- the written form of a legal model is accepted, and each part is found where the reading says
 pub written-is-found : (M : Described) → Legal M → Finds (writtenModel M) M (readModel (writtenModel M))
 written-is-found M legal =
@@ -229,6 +240,7 @@ written-is-found M legal =
           (ap (λ (x : List ℕ). drop (getD x j 0) text) (u .props) ∙ v .located j k .is);
       steps = λ i k.
           legal-read n h true (ruleAt rules i .step) (legal .rules i k .step) (drop (getD (r .steps) i 0) text) (u .located i k .rest) (u .located i k .step-is);
+      starts = λ i k. start-read n h (ruleAt rules i .start) (legal .rules i k .start) text (getD (r .steps) i 0) (getD (r .starts) i 0) (u .located i k .start-is);
       names = λ i k. u .located i k .name-is;
     })
 
@@ -292,11 +304,17 @@ accepted-is-found text q =
 
 -- ---- how long a legal model is
 
-rule-length : (n : ℕ) (r : Rule) → LegalRule n r → length (writtenRule r) ≤ 79
-unfolding writtenRule size
-rule-length n r l = omega (arith, l .nameLength .atMost, l .step .bytes, length-line ruleKey (r .name ++ 58 ∷ written (r .step)), length-append (r .name) (58 ∷ written (r .step)))
+start-length : (n : ℕ) (start : Option Expr) → LegalStart n start → length (writtenStart start) ≤ 65
+unfolding writtenStart size
+start-length n none l = omega arith
+start-length n (some e) l = omega (arith, l .bytes)
 
-pub rules-length : (n : ℕ) (rs : List Rule) → ((i : ℕ) → i < length rs → LegalRule n (ruleAt rs i)) → length (flatMap writtenRule rs) ≤ 79 * length rs
+rule-length : (n : ℕ) (r : Rule) → LegalRule n r → length (writtenRule r) ≤ 144
+unfolding writtenRule writtenParts size
+rule-length n r l =
+    omega (arith, l .nameLength .atMost, l .step .bytes, start-length n (r .start) (l .start), length-line ruleKey (r .name ++ 58 ∷ writtenParts r), length-append (r .name) (58 ∷ writtenParts r), length-append (written (r .step)) (writtenStart (r .start)))
+
+pub rules-length : (n : ℕ) (rs : List Rule) → ((i : ℕ) → i < length rs → LegalRule n (ruleAt rs i)) → length (flatMap writtenRule rs) ≤ 144 * length rs
 unfolding flatMap
 rules-length n [] f = omega arith
 rules-length n (r ∷ rs) f =

@@ -4,6 +4,7 @@ use Prim.Native.Nat.{ℕ, zero, suc, _+_, _*_, _/_, _%_, _≤_, _<_}
 use mathlib.Core.Path.{_≡_, refl, ap}
 use mathlib.Core.Bool.{Bool, false}
 use mathlib.Core.List.{List, [], _∷_, _++_, map, flatMap}
+use mathlib.Core.Option.{none}
 use native.Mathlib.Omega.{arith}
 use native.Mathlib.Decide.{decLt}
 use native.Mathlib.Nat.{suc-mul}
@@ -88,9 +89,9 @@ module _ (M : Described) (legal : Legal M) where
       go : Dec (i < length (M .rules)) → length (ruleAt (M .rules) i .name) ≤ 8
       go (yes h) = legal .rules i h .nameLength .atMost
       go (no h) =
-          let none : ruleAt (M .rules) i ≡ record { name = []; step = constant false } =
-          List·getD-eq-default (M .rules) (record { name = []; step = constant false }) {n = i} (omega arith) in
-          omega (arith, ap (λ (r : Rule). length (r .name)) none)
+          let absent : ruleAt (M .rules) i ≡ record { name = []; step = constant false; start = none } =
+          List·getD-eq-default (M .rules) (record { name = []; step = constant false; start = none }) {n = i} (omega arith) in
+          omega (arith, ap (λ (r : Rule). length (r .name)) absent)
 
   set-length : (key : List ℕ) (S : ℕ) → length (setLine M key S) ≤ length key + 146
   unfolding setLine

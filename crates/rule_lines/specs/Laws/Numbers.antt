@@ -1,17 +1,57 @@
 -- Which number refuses a rule line, by cases: the first test that is failed tells it. The theorem of the crate `models` about the first number that fits
 -- rests on this for the order within a line. From the definitions of `RuleLines`.
-use Prim.Native.Nat.{ℕ, _+_}
-use mathlib.Core.Path.{_≡_, sym, subst}
+use Prim.Native.Nat.{ℕ, zero, suc, _+_}
+use mathlib.Core.Path.{_≡_, refl, sym, ap, subst, _∙_}
+use mathlib.Core.Logic.{_≢_}
 use mathlib.Core.Bool.{Bool, true, false}
 use mathlib.Core.List.{List}
-use lib.ListN.{take, drop}
+use native.Mathlib.Omega.{arith}
+use lib.Dec.{ltb}
+use lib.ListN.{length, take, drop}
 use Rattle.lines.specs.declared.classes.Class.the-variants.{InName}
 use Rattle.rule_lines.specs.declared.names.RuleLine.{RuleLine}
 use Rattle.rule_lines.specs.declared.names.RuleLine.the-variants.{RuleFault, RuleRead}
 use Rattle.lines.specs.Bytes.{prefix}
 use Rattle.lines.specs.Lines.{ruleKey, lineLength, isLine, valueOf, unlessFault, faultOf}
-use Rattle.rule_lines.specs.RuleLines.{isNamed, partsAt, ruleLine}
+use Rattle.rule_lines.specs.RuleLines.{isNamed, stepLength, startFault, partsFault, partsAt, ruleLine}
 use Rattle.lines.specs.Laws.Numbers.{tested}
+use Rattle.lines.specs.Laws.Lines.{unfaulted}
+use Rattle.lines.specs.Laws.Ended.{faulted}
+
+-- ---- the parts behind the name
+
+module _ (n step : ℕ) (e : List ℕ) where
+  -- The numbers of the step part come before those of the start part.
+  pub record PartsNumbers (number : ℕ) : Type 0 where
+    pub byStep : faultOf n true (take step e) ≢ 0 → number ≡ faultOf n true (take step e)
+    pub byStart : faultOf n true (take step e) ≡ 0 → ltb step (length e) ≡ true → number ≡ faultOf n false (drop (step + 1) e)
+    pub byNeither : faultOf n true (take step e) ≡ 0 → ltb step (length e) ≡ false → number ≡ 0
+
+  pub parts-numbers : PartsNumbers (partsFault n step e)
+  unfolding partsFault startFault
+  parts-numbers = record {
+    byStep = λ h. faulted (λ number. number) (faultOf n true (take step e)) (startFault n step e) h;
+    byStart = λ h b. unfaulted (λ number. number) (faultOf n true (take step e)) (startFault n step e) h ∙ rw b;
+    byNeither = λ h b. unfaulted (λ number. number) (faultOf n true (take step e)) (startFault n step e) h ∙ rw b;
+  }
+
+  -- what is true in each of these cases is true of the number
+  pub by-parts : (P : ℕ → Type 0) → (faultOf n true (take step e) ≢ 0 → P (faultOf n true (take step e)))
+      → (faultOf n true (take step e) ≡ 0 → ltb step (length e) ≡ true → P (faultOf n false (drop (step + 1) e)))
+      → (faultOf n true (take step e) ≡ 0 → ltb step (length e) ≡ false → P 0) → P (partsFault n step e)
+  by-parts P first second none = go (faultOf n true (take step e)) refl
+    where
+      x : PartsNumbers (partsFault n step e)
+      x = parts-numbers
+
+      go : (number : ℕ) → faultOf n true (take step e) ≡ number → P (partsFault n step e)
+      go zero z =
+          tested (ltb step (length e)) (λ b. subst P (sym (x .byStart z b)) (second z b)) (λ b. subst P (sym (x .byNeither z b)) (none z b))
+      go (suc number) s =
+          let h : faultOf n true (take step e) ≢ 0 = λ z. let q : _≡_ {A = ℕ} 0 (suc number) = sym z ∙ s in absurd (omega arith) in
+          subst P (sym (x .byStep h)) (first h)
+
+-- ---- the line
 
 module _ (n : ℕ) (taken : List ℕ → Bool) (at : ℕ) (s : List ℕ) where
   -- what stands behind `rule=`, and how many bytes of a name it begins with
@@ -21,11 +61,15 @@ module _ (n : ℕ) (taken : List ℕ → Bool) (at : ℕ) (s : List ℕ) where
   abbrev named : ℕ
   named = prefix InName value
 
+  -- what stands behind the name's `:`
+  abbrev parts : List ℕ
+  parts = drop (named + 1) value
+
   -- what the line is behind a name that no earlier rule has
   abbrev behindName : RuleLine
-  behindName = unlessFault RuleFault (faultOf n true (drop (named + 1) value)) (RuleRead (partsAt at named) (lineLength s + 1))
+  behindName = unlessFault RuleFault (partsFault n (stepLength parts) parts) (RuleRead (partsAt at named parts) (lineLength s + 1))
 
-  -- 1 comes before 3, 3 before 4, and 4 before the numbers of the expression.
+  -- 1 comes before 3, 3 before 4, and 4 before the numbers of the parts.
   pub record RuleNumbers (l : RuleLine) : Type 0 where
     pub byLine : isLine ruleKey s ≡ false → l ≡ RuleFault 1
     pub byName : isLine ruleKey s ≡ true → isNamed value ≡ false → l ≡ RuleFault 3

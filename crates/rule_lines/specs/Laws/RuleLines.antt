@@ -4,46 +4,48 @@ use Prim.Native.Nat.{ℕ, zero, suc, _+_, _≤_, _<_}
 use mathlib.Core.Path.{_≡_, refl, sym, ap, ap₂, _∙_}
 use mathlib.Core.Bool.{Bool, true, false, _&&_, and-eq-true-iff}
 use mathlib.Core.List.{List, [], _∷_, _++_}
+use mathlib.Core.Option.{Option, none, some}
 use native.Mathlib.Omega.{arith}
 use native.Mathlib.Numerals.{add-one}
 use borrow.Author.Tests.{eq-eqb, eqb-true, le-leb, leb-true}
 use lib.Dec.{eqb, leb}
 use lib.ListN.{length, getD, take, drop}
 use lib.Seq.{take-append-seam, getD-append-seam, drop-append-add, split-at, length-take-le}
-use Rattle.exprs.specs.Expr.{written}
+use Rattle.exprs.specs.Expr.{Expr, written}
 use Rattle.lines.specs.declared.classes.Class.the-variants.{InLine, InName}
 use Rattle.rule_lines.specs.declared.names.RuleLine.the-variants.{RuleFault, RuleRead}
 use Rattle.rule_lines.specs.declared.names.RuleParts.{RuleParts}
 use Rattle.lines.specs.Bytes.{belongs, prefix}
-use Rattle.lines.specs.Lines.{ruleKey, valueOf, all, faultOf}
+use Rattle.lines.specs.Lines.{ruleKey, valueOf, all}
 use Rattle.rule_lines.specs.RuleLines.{isNamed, partsAt, ruleLine}
-use Rattle.lines.specs.Written.{Rule, Within, LegalRule, line, writtenRule}
-use Rattle.lines.specs.Laws.Bytes.{all-append, all-more, all-in-line, prefix-seam, all-prefix}
+use Rattle.lines.specs.Written.{Rule, Within, LegalStart, LegalRule, line, writtenStart, writtenParts, writtenRule}
+use Rattle.lines.specs.Laws.Bytes.{all-nil, all-append, all-more, all-in-line, prefix-seam, all-prefix}
 use Rattle.rule_lines.specs.Laws.Numbers.{rule-numbers, by-rule}
-use Rattle.lines.specs.Laws.Expressions.{fault-there, fault-back, legal-in-line}
+use Rattle.lines.specs.Laws.Expressions.{legal-in-line}
+use Rattle.rule_lines.specs.Laws.Parts.{parts-there, parts-back}
 use Rattle.lines.specs.Laws.Lines.{Reads, unfaulted-back, unfaulted, line-there, line-back}
 
 -- a rule line that is read is not refused
 no-rule-read : (parts : RuleParts) (bytes number : ℕ) → RuleFault number ≡ RuleRead parts bytes → ⊥
 no-rule-read parts bytes number q = let z : _≡_ {A = ℕ} 0 1 = cc in omega arith
 
--- the value begins with the name and `:`, and the expression follows
-pub record Named (name step v : List ℕ) : Type 0 where
+-- the value begins with the name and `:`, and the parts follow
+pub record Named (name parts v : List ℕ) : Type 0 where
   pub is : isNamed v ≡ true
   pub bytes : prefix InName v ≡ length name
   pub name-is : take (prefix InName v) v ≡ name
-  pub step-is : drop (prefix InName v + 1) v ≡ step
+  pub parts-are : drop (prefix InName v + 1) v ≡ parts
 
-pub named-there : (name step : List ℕ) → Within 1 8 (length name) → all InName name ≡ true → Named name step (name ++ 58 ∷ step)
+pub named-there : (name parts : List ℕ) → Within 1 8 (length name) → all InName name ≡ true → Named name parts (name ++ 58 ∷ parts)
 unfolding isNamed belongs
-named-there name step w a =
-    let v : List ℕ = name ++ 58 ∷ step in
-    let p : prefix InName v ≡ length name = prefix-seam InName name 58 step a refl in
+named-there name parts w a =
+    let v : List ℕ = name ++ 58 ∷ parts in
+    let p : prefix InName v ≡ length name = prefix-seam InName name 58 parts a refl in
     record {
-      is = rw (p, le-leb 1 (length name) (w .atLeast), le-leb (length name) 8 (w .atMost)) (eq-eqb _ _ (getD-append-seam name 58 step 0));
+      is = rw (p, le-leb 1 (length name) (w .atLeast), le-leb (length name) 8 (w .atMost)) (eq-eqb _ _ (getD-append-seam name 58 parts 0));
       bytes = p;
-      name-is = rw p (take-append-seam name (58 ∷ step));
-      step-is = rw p (drop-append-add name (58 ∷ step) 1);
+      name-is = rw p (take-append-seam name (58 ∷ parts));
+      parts-are = rw p (drop-append-add name (58 ∷ parts) 1);
     }
 
 -- a value that begins with a proper name and `:`
@@ -72,29 +74,35 @@ named-back v h =
       text = split-at v k 0 within ∙ ap₂ (λ x m. take k v ++ x ∷ drop m v) colon (sym (add-one k));
     }
 
-pub rule-in-line : (n : ℕ) (r : Rule) → n ≤ 7 → LegalRule n r → all InLine (r .name ++ 58 ∷ written (r .step)) ≡ true
-unfolding belongs
+start-in-line : (n : ℕ) → n ≤ 7 → (start : Option Expr) → LegalStart n start → all InLine (writtenStart start) ≡ true
+unfolding writtenStart belongs
+start-in-line n h none l = all-nil InLine
+start-in-line n h (some e) l = all-more InLine 58 (written e) refl (legal-in-line n false e h l)
+
+pub rule-in-line : (n : ℕ) (r : Rule) → n ≤ 7 → LegalRule n r → all InLine (r .name ++ 58 ∷ writtenParts r) ≡ true
+unfolding writtenParts belongs
 rule-in-line n r h l =
-    all-append InLine (r .name) (58 ∷ written (r .step))
-    ∙ ap₂ _&&_ (all-in-line InName refl (r .name) (l .nameBytes)) (all-more InLine 58 (written (r .step)) refl (legal-in-line n true (r .step) h (l .step)))
+    let parts : all InLine (writtenParts r) ≡ true =
+    all-append InLine (written (r .step)) (writtenStart (r .start)) ∙ ap₂ _&&_ (legal-in-line n true (r .step) h (l .step)) (start-in-line n h (r .start) (l .start)) in
+    all-append InLine (r .name) (58 ∷ writtenParts r) ∙ ap₂ _&&_ (all-in-line InName refl (r .name) (l .nameBytes)) (all-more InLine 58 (writtenParts r) refl parts)
 
 pub ruleKey-in-line : all InLine ruleKey ≡ true
 unfolding all prefix belongs
 ruleKey-in-line = refl
 
 pub rule-reads : (n : ℕ) → n ≤ 7 → (taken : List ℕ → Bool) (at : ℕ)
-    → Reads RuleRead (λ r. LegalRule n r × (taken (r .name) ≡ false)) writtenRule (λ r. partsAt at (length (r .name))) (ruleLine n taken at)
-unfolding writtenRule
+    → Reads RuleRead (λ r. LegalRule n r × (taken (r .name) ≡ false)) writtenRule (λ r. partsAt at (length (r .name)) (writtenParts r)) (ruleLine n taken at)
+unfolding writtenRule writtenParts
 rule-reads n h taken at = record {
   there = λ r l rest.
-      let v = r .name ++ 58 ∷ written (r .step) in
+      let v = r .name ++ 58 ∷ writtenParts r in
       let s = line ruleKey v ++ rest in
       let b = line-there ruleKey ruleKey-in-line v rest (rule-in-line n r h (l .0)) in
-      let m = named-there (r .name) (written (r .step)) (l .0 .nameLength) (l .0 .nameBytes) in
+      let m = named-there (r .name) (writtenParts r) (l .0 .nameLength) (l .0 .nameBytes) in
+      let p = parts-there n h (r .step) (l .0 .step) (r .start) (l .0 .start) in
       let v-is : valueOf ruleKey s ≡ v = b .value-is in
       rule-numbers n taken at s .byRest (b .is) (ap isNamed v-is ∙ m .is) (rw (v-is, m .name-is) (l .1))
-      ∙ rw (v-is, m .step-is, m .bytes)
-      (unfaulted RuleFault (faultOf n true (written (r .step))) _ (fault-there n true (r .step) h (l .0 .step)) ∙ ap (RuleRead (partsAt at (length (r .name)))) (b .bytes));
+      ∙ rw (v-is, m .parts-are, m .bytes) (unfaulted RuleFault _ _ (p .unrefused) ∙ ap (RuleRead (partsAt at (length (r .name)) (writtenParts r))) (b .bytes));
   back = λ s parts bytes.
       let v = valueOf ruleKey s in
       let k = prefix InName v in
@@ -103,11 +111,11 @@ rule-reads n h taken at = record {
       (λ _ _ q. absurd (no-rule-read parts bytes 3 q))
       (λ _ _ _ q. absurd (no-rule-read parts bytes 4 q))
       (λ a b c q.
-      let e = fault-back n true (drop (k + 1) v) (unfaulted-back RuleFault (faultOf n true (drop (k + 1) v)) _ _ (no-rule-read parts bytes) q) in
+      let e = parts-back n (drop (k + 1) v) (unfaulted-back RuleFault _ _ _ (no-rule-read parts bytes) q) in
       let m = named-back v b in
       let r = line-back ruleKey ruleKey-in-line s a in (
-        record { name = take k v; step = e .0 },
-        (record { nameLength = m .length-is; nameBytes = all-prefix InName v; step = e .1 }, c),
-        (r .0, r .1 ∙ ap (λ x. line ruleKey x ++ r .0) (m .text ∙ ap (λ x. take k v ++ 58 ∷ x) (e .2))),
+        record { name = take k v; step = e .step; start = e .start },
+        (record { nameLength = m .length-is; nameBytes = all-prefix InName v; step = e .step-legal; start = e .start-legal }, c),
+        (r .0, r .1 ∙ ap (λ x. line ruleKey x ++ r .0) (m .text ∙ ap (λ x. take k v ++ 58 ∷ x) (e .are))),
       ));
 }

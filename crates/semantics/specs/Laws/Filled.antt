@@ -1,6 +1,6 @@
 -- What the crates above cite of masks and tables that are filled from a text: the masks have room, and each rule set has by them the system and the
 -- verdict that it means. From the laws of the tables and of systems that agree on their states. Assumes nothing.
-use Prim.Native.Nat.{ℕ, _*_, _^_, _≤_, _<_}
+use Prim.Native.Nat.{ℕ, _+_, _*_, _^_, _≤_, _<_}
 use mathlib.Core.Path.{_≡_, sym, subst, _∙_}
 use mathlib.Core.List.{List}
 use native.Mathlib.Omega.{arith}
@@ -25,7 +25,7 @@ pub repeats : (n word : ℕ) → length {A = ℕ} (replicate n word) ≡ n
 repeats n word = length-replicate {A = ℕ} n word
 
 -- So many entries are enough for the masks of models of at most so many letters.
-pub array-room : (n most : ℕ) {m : Model} → 128 * 2 ^ most ≤ n → m .vars ≤ most → Few m → RoomFor m (replicate n 0)
+pub array-room : (n most : ℕ) {m : Model} → 128 * (2 ^ most + 1) ≤ n → m .vars ≤ most → Few m → RoomFor m (replicate n 0)
 array-room n most enough small few = record { few = few; room = omega (arith, pow-mono small, repeats n 0) }
 
 -- ---- the tables that are filled

@@ -1,18 +1,18 @@
--- What stands at single places of the text is the model that the text tells: the rules, the start states, the bad states and the masks; and the
+-- What stands at single places of the text is the model that the text tells: the rules, the states that meet `init`, the bad states and the masks; and the
 -- bits that the words of the rules have at a place make the mask of that pair. From the laws of lists and of sets as numbers. Assumes nothing.
-use Prim.Native.Nat.{ℕ, _+_, _*_, _/_, _%_, _≤_, _<_}
-use mathlib.Core.Path.{_≡_, refl, sym, ap, _∙_, fun-ext}
+use Prim.Native.Nat.{ℕ, zero, suc, _+_, _*_, _/_, _%_, _^_, _≤_, _<_}
+use mathlib.Core.Path.{_≡_, refl, sym, ap, ap₂, _∙_, fun-ext}
 use mathlib.Core.Bool.{Bool, true, false, not, Bool·beq, cond}
 use mathlib.Core.List.{List, [], _∷_}
 use mathlib.Core.Option.{Option, none, some}
 use native.Mathlib.Omega.{arith}
-use borrow.Author.Tests.{lt-ltb, le-ltb}
-use lib.Dec.{ltb}
+use borrow.Author.Tests.{lt-ltb, le-ltb, eqb-true}
+use lib.Dec.{eqb, ltb}
 use lib.ListN.{length, getD, take, set, replicate, drop}
 use lib.Seq.{getD-take, length-take-le}
-use Rattle.sets.specs.Bit.{has}
+use Rattle.sets.specs.Bit.{has, full}
 use Rattle.sets.specs.Gathered.{setOf}
-use Rattle.sets.specs.Laws.Gathered.{has-setOf, setOf-same, setOf-none}
+use Rattle.sets.specs.Laws.Gathered.{has-setOf, setOf-same, setOf-none, setOf-all}
 use Rattle.sets.specs.Laws.Tabulated.{length-tabulate, getD-tabulate, all-alike, one-stored, below-next}
 use Rattle.exprs.specs.declared.words.Worded.{Worded}
 use Rattle.exprs.specs.declared.words.Worded.the-variants.{Word, NoWord}
@@ -20,20 +20,20 @@ use Rattle.exprs.specs.Expr.{Expr, value}
 use Rattle.exprs.specs.Reading.{readExpr}
 use Rattle.exprs.specs.Answers.{wordsIn, wordsOf}
 use Rattle.models.specs.declared.model.Model.{Model}
-use Rattle.models.specs.Written.{orFalse, exprAt, propertyIn, ruleIn, described}
+use Rattle.models.specs.Written.{orFalse, exprAt, propertyIn, startAt, ruleIn, described}
 use Rattle.models.specs.Laws.Written.{described-properties, described-property, described-count, described-rule}
-use Rattle.semantics.specs.Meaning.{every, startOf, propertyMet, badOf, ruleMet}
-use Rattle.semantics.specs.TablesOf.{maskOf}
-use Rattle.semantics.specs.Laws.Meaning.{every-same}
-use Rattle.semantics.specs.Places.{meets, meetsAll, maskBy, wordAt, wordTable}
+use Rattle.semantics.specs.Meaning.{every, initMet, startPartMet, startMet, propertyMet, badOf, stepMet}
+use Rattle.semantics.specs.TablesOf.{maskOf, startMaskOf, maskRow}
+use Rattle.semantics.specs.Laws.Meaning.{every-iff, every-same}
+use Rattle.semantics.specs.Places.{meets, meetsAll, maskBy, meetsStart, startMaskBy, maskRowBy, wordAt, wordTable}
 
 -- ---- the model that the text tells
 
 module _ (text : List ℕ) (m : Model) where
-  -- A test whether `init` is met marks the start states, and one whether not all properties are met the bad states.
-  pub start-described : (s : ℕ) → Bool·beq (meetsAll text (m .init ∷ []) s) true ≡ startOf (described text m) s
-  unfolding described meetsAll every meets startOf
-  start-described s = is-true (value (exprAt text (m .init)) s s)
+  -- A test whether `init` is met marks the states that meet it, and one whether not all properties are met the bad states.
+  pub init-described : (s : ℕ) → Bool·beq (meetsAll text (m .init ∷ []) s) true ≡ initMet (described text m) s
+  unfolding described meetsAll every meets initMet
+  init-described s = is-true (value (exprAt text (m .init)) s s)
     where
       is-true : (b : Bool) → Bool·beq b true ≡ b
       is-true true = refl
@@ -56,15 +56,40 @@ module _ (text : List ℕ) (m : Model) where
       is-false true = refl
       is-false false = refl
 
+  -- A state meets the start part that begins so many bytes behind a step part.
+  start-part : (step bytes s : ℕ) → meetsStart text step bytes s ≡ startPartMet (startAt text step bytes) s
+  unfolding meetsStart meets startPartMet startAt
+  start-part step zero s = refl
+  start-part step (suc bytes) s = refl
+
   -- The masks are those of the rules at their places.
-  pub mask-described : maskBy text (m .steps) (m .rules) ≡ maskOf (described text m)
-  unfolding maskBy maskOf meets ruleMet ruleIn
-  mask-described = fun-ext (λ s. fun-ext (λ t. at s t))
-    where
-      at : (s t : ℕ) → maskBy text (m .steps) (m .rules) s t ≡ maskOf (described text m) s t
-      at s t =
-          setOf-same (m .rules) _ (λ i. ruleMet (described text m) i s t) (λ i h. ap (λ r. value (r .step) s t) (sym (described-rule text m i h)))
-          ∙ ap (λ (n : ℕ). setOf n (λ i. ruleMet (described text m) i s t)) (sym (described-count text m))
+  module _ (s : ℕ) where
+    mask-described : (t : ℕ) → maskBy text (m .steps) (m .rules) s t ≡ maskOf (described text m) s t
+    unfolding maskBy maskOf meets stepMet ruleIn
+    mask-described t =
+        setOf-same (m .rules) _ (λ i. stepMet (described text m) i s t) (λ i h. ap (λ r. value (r .step) s t) (sym (described-rule text m i h)))
+        ∙ ap (λ (n : ℕ). setOf n (λ i. stepMet (described text m) i s t)) (sym (described-count text m))
+
+    start-mask-described : startMaskBy text (m .steps) (m .starts) (m .rules) s ≡ startMaskOf (described text m) s
+    unfolding startMaskBy startMaskOf startMet ruleIn
+    start-mask-described =
+        setOf-same (m .rules) _ (λ i. startMet (described text m) i s)
+        (λ i h. start-part (getD (m .steps) i 0) (getD (m .starts) i 0) s ∙ ap (λ r. startPartMet (r .start) s) (sym (described-rule text m i h)))
+        ∙ ap (λ (n : ℕ). setOf n (λ i. startMet (described text m) i s)) (sym (described-count text m))
+
+  pub rows-described : maskRowBy text (m .steps) (m .starts) (m .rules) (2 ^ m .vars) ≡ maskRow (described text m)
+  unfolding maskRowBy maskRow described
+  rows-described = fun-ext (λ s. fun-ext (λ t. ap₂ (cond (ltb s (2 ^ m .vars))) (mask-described s t) (start-mask-described t)))
+
+-- ---- rules without start parts
+
+-- Every state meets the start part of each.
+pub all-met : (text steps starts : List ℕ) (rules : ℕ) → every rules (λ i. eqb (getD starts i 0) 0) ≡ true → (s : ℕ) → full rules ≡ startMaskBy text steps starts rules s
+unfolding startMaskBy meetsStart
+all-met text steps starts rules lacks s =
+    setOf-all rules
+    ∙ setOf-same rules (λ i. true) _
+    (λ i h. sym (ap (λ (n : ℕ). meetsStart text (getD steps i 0) n s) (eqb-true (getD starts i 0) 0 (every-iff rules (λ i. eqb (getD starts i 0) 0) .0 lacks i h))))
 
 -- ---- an answer of `exprs::words::words`
 

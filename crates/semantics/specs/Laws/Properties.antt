@@ -11,7 +11,7 @@ use Rattle.models.specs.Written.{Described}
 use Rattle.models.specs.Changed.{byProperty}
 use Rattle.systems.specs.Properties.{Jointly, JointlyJudged}
 use Rattle.systems.specs.Laws.Properties.{jointlyJudged}
-use Rattle.semantics.specs.Meaning.{every, propertyMet, startOf, badOf, ruleMet, stepOf, systemOf}
+use Rattle.semantics.specs.Meaning.{every, propertyMet, initMet, startMet, startOf, badOf, stepMet, stepOf, systemOf}
 use Rattle.semantics.specs.Laws.Meaning.{every-iff, one-fails}
 
 module _ (M : Described) where
@@ -32,7 +32,7 @@ module _ (M : Described) where
 
   -- The system of a set is the joint one of those by each property.
   jointly : (S : ℕ) → Jointly (systemOf M S) (length (M .props)) (λ j. systemOf (byProperty j M) S)
-  unfolding systemOf byProperty startOf stepOf ruleMet
+  unfolding systemOf byProperty startOf initMet startMet stepOf stepMet
   jointly S = record { size = λ j _. refl; start = λ j _ s. refl; step = λ j _ s t. refl; bad = bad-iff }
 
   -- So are its verdict and its trace.

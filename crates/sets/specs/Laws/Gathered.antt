@@ -1,20 +1,24 @@
 -- The set of the numbers that pass a test is below 2 ^ n, and has exactly the numbers below n that pass. So the complement, the meet and so
 -- on of sets are gathered by the tests so combined. By induction on n.
-use Prim.Native.Nat.{ℕ, zero, suc, _-_, _%_, _^_, _<_}
+use Prim.Native.Nat.{ℕ, zero, suc, _+_, _-_, _%_, _^_, _<_}
 use mathlib.Core.Path.{_≡_, refl, sym, ap, _∙_}
-use mathlib.Core.Logic.{_⊎_, inl, inr}
+use mathlib.Core.Logic.{_⊎_, inl, inr, ⊎-elim}
 use mathlib.Core.Bool.{Bool, true, false, not, _&&_, _||_, Bool·beq, Bool·not-not, false≢true, and-eq-true-iff}
 use native.Mathlib.Omega.{arith}
+use native.Mathlib.Decide.{ℕ-discrete}
 use native.Mathlib.Nat.{pow-suc}
+use native.Mathlib.Numerals.{add-one}
 use borrow.Author.Count.{below-more}
 use lib.Dec.{eqb}
 use lib.Arith.{digits-lt}
 use lib.Bits.{bitAnd, bitOr, bitXor, and-lt, or-lt, xor-lt}
-use lib.Pow.{high, low, pow-pos, ones-lt, ones-sub-lt}
+use lib.Pow.{high, low, pow-pos, pow-mono, ones-lt, ones-sub-lt}
 use Rattle.sets.specs.Laws.Choice.{alike}
 use Rattle.sets.specs.Bit.{has, full}
 use Rattle.sets.specs.Laws.Bit.{has-low, has-and, has-or, has-xor, has-le, has-below, has-zero, has-full, has-rest}
 use Rattle.sets.specs.Gathered.{one, setOf}
+use Rattle.sets.specs.Sets.{with}
+use Rattle.sets.specs.Laws.Sets.{has-with, with-below}
 
 pub one-lt : (b : Bool) → one b < 2
 unfolding one
@@ -60,6 +64,22 @@ setOf-same n p q same = is-setOf n (setOf n p) q (setOf-lt n p) (λ i l. has-set
 
 pub setOf-none : (n : ℕ) → 0 ≡ setOf n (λ i. false)
 setOf-none n = is-setOf n 0 (λ i. false) (pow-pos n) (λ i l. alike (has 0 i) false (λ e. absurd (has-zero i e)) (λ e. absurd (false≢true e)))
+
+-- One number more, which passes or does not.
+pub setOf-more : (n : ℕ) (p : ℕ → Bool) → p n ≡ true → with (setOf n p) n ≡ setOf (n + 1) p
+setOf-more n p e =
+    is-setOf (n + 1) (with (setOf n p) n) p (with-below (n + 1) (setOf n p) n (omega (arith, setOf-lt n p, pow-mono {i = n} {j = n + 1} (omega arith))) (omega arith))
+    (λ i l. alike (has (with (setOf n p) n) i) (p i)
+    (λ m. ⊎-elim (λ s. let b = has-below n (setOf n p) i (setOf-lt n p) s in sym (has-setOf n p i b) ∙ s) (λ q. ap p q ∙ e) (has-with (setOf n p) n i .0 m))
+    (λ m. has-with (setOf n p) n i .1 (go i l m (ℕ-discrete i n))))
+  where
+    go : (i : ℕ) → i < n + 1 → p i ≡ true → Dec (i ≡ n) → (has (setOf n p) i ≡ true) ⊎ (i ≡ n)
+    go i l m (yes q) = inr q
+    go i l m (no q) = inl (has-setOf n p i (omega arith) ∙ m)
+
+pub setOf-same-more : (n : ℕ) (p : ℕ → Bool) → p n ≡ false → setOf n p ≡ setOf (n + 1) p
+unfolding setOf one
+setOf-same-more n p e = sym (ap (λ m. setOf m p) (add-one n) ∙ rw e (omega arith))
 
 pub setOf-all : (n : ℕ) → full n ≡ setOf n (λ i. true)
 setOf-all n = is-setOf n (full n) (λ i. true) (ones-lt n) (λ i l. has-full n i .1 l)

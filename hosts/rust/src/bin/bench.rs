@@ -20,7 +20,8 @@ use codremif_host::plain::sets::{irrelevant, may, must, Verdicts};
 use codremif_host::plain::system::TransitionSystem;
 use codremif_host::plain::text::{self, Model};
 use codremif_host::random::models::{full_counter, model_of, Kind};
-use codremif_host::random::written::{join, later, now, pad, Written};
+use codremif_host::random::start_parts::{with_start_part_everywhere, with_start_parts};
+use codremif_host::random::written::{join, later, now, pad, Written, WrittenRule};
 use codremif_host::random::Random;
 
 /// Runs go on until this time is spent, at least `FEWEST_RUNS` and at most `MOST_RUNS`.
@@ -44,6 +45,7 @@ fn main() {
     table_of_weak_sets();
     table_of_one_core(samples);
     table_of_properties();
+    table_of_start_parts();
     table_of_lookups();
     println!(
         "Times are medians in milliseconds; 'ratio' is the plain search's time divided by the library's."
@@ -55,6 +57,7 @@ fn main() {
         "Next to MUST, 'ratio' is the time of one core divided by that of MUST; at most 1.1 is asked for."
     );
     println!("Next to one property, 'ratio' is the time with four divided by the time with one; at most 1.2 is asked for.");
+    println!("Next to none, 'ratio' is the time with start parts divided by the time without them.");
     println!(
         "Where a set is looked up, times are nanoseconds for each listed set passed over; at most 2 are stated."
     );
@@ -114,8 +117,8 @@ fn longest_text() -> Case {
 }
 
 fn pad_rules(random: &mut Random, written: &mut Written) {
-    for (_, expression) in &mut written.rules {
-        *expression = pad(random, expression, 64);
+    for rule in &mut written.rules {
+        rule.step = pad(random, &rule.step, 64);
     }
 }
 
@@ -129,7 +132,8 @@ fn growing_model(bits: usize, rules: usize) -> Written {
     let kept = bits.min(rules).min(4);
     let none_set = format!("!{}", join('|', &(0..kept).map(now).collect::<Vec<_>>()));
     let keeper = |bit| format!(">{}{}", later(bit), now(bit));
-    let rules_written = (0..rules).map(|rule| (format!("r{rule}"), keeper(rule % kept))).collect();
+    let rules_written =
+        (0..rules).map(|rule| WrittenRule::new(format!("r{rule}"), keeper(rule % kept))).collect();
     Written { bits, init: none_set.clone(), properties: vec![none_set], rules: rules_written }
 }
 
@@ -351,6 +355,100 @@ fn conjoined_list(model: &Conjoined, call: fn(&[u8], &mut [u8]) -> Result<usize,
     let times = in_turns(|| call(&model.four, &mut sets_of_four), || call(&model.one, &mut sets_of_one));
     assert_eq!(sets_of_four, sets_of_one, "{}: lent bytes, four properties left, one right", model.name);
     times
+}
+
+/// The same model in two texts: with start parts, and without them.
+struct Started {
+    name: String,
+    with: Vec<u8>,
+    without: Vec<u8>,
+}
+
+impl Started {
+    /// Each rule gets a start part that says what `init` says, and `init` says nothing in the text that has them: so they are the
+    /// same models for every set but set 0.
+    fn in_place_of_init(name: &str, without: &Written) -> Started {
+        let mut with = with_start_part_everywhere(without, &without.init);
+        with.init = "1".to_string();
+        Started { name: name.to_string(), with: with.text(), without: without.text() }
+    }
+
+    /// Random start parts.
+    fn random(name: &str, without: &Written, seed: u64) -> Started {
+        let mut with = without.clone();
+        with_start_parts(&mut Random::new(seed), &mut with);
+        Started { name: name.to_string(), with: with.text(), without: without.text() }
+    }
+
+    fn next_to_none<T>(&self, call: impl Fn(&[u8], &mut [u8]) -> T) -> NextTo {
+        let (mut lent, mut other_lent) = (vec![0; calls::LIST_BYTES], vec![0; calls::LIST_BYTES]);
+        in_turns(|| call(&self.with, &mut lent), || call(&self.without, &mut other_lent))
+    }
+}
+
+/// By size, and of the largest ones some of each kind.
+fn started_models() -> Vec<Started> {
+    let by_size = |(bits, rules)| {
+        Started::in_place_of_init(&format!("N {bits}, R {rules}"), &growing_model(bits, rules))
+    };
+    let mut models: Vec<Started> = SIZES.map(by_size).into();
+    for (name, kind, seed) in [
+        ("clauses, more cores", Kind::Clauses, 13),
+        ("alternatives, hundreds", Kind::Alternatives, 8),
+        ("joint, many cuts", Kind::Joint, 16),
+        ("dense, hundreds", Kind::Dense, 2),
+    ] {
+        let written = model_of(&mut Random::new(seed), kind, 7, 16);
+        models.push(Started::random(name, &written, seed));
+    }
+    models
+}
+
+fn table_of_start_parts() {
+    println!("Start parts, next to the plain search and next to the same model without them");
+    let next_to_none = |call| heading_next_to(call, "none");
+    println!(
+        "{:<22} {:>1} {:>2} {:>5} {:>5} |{} |{} |{} |{} |{} |{}",
+        "model",
+        "N",
+        "R",
+        "cores",
+        "cuts",
+        heading("judge"),
+        heading("cores"),
+        heading("cuts"),
+        next_to_none("judge"),
+        next_to_none("cores"),
+        next_to_none("cuts")
+    );
+    for model in started_models() {
+        println!("{}", row_of_start_parts(&model));
+    }
+    println!();
+}
+
+fn row_of_start_parts(model: &Started) -> String {
+    let text = &model.with[..];
+    let Model { bits, rules, .. } = read(text);
+    let full_set = u32::from(u16::MAX >> (16 - rules.len()));
+    let judged = timed_with_bytes(
+        |lent| calls::judge(text, full_set, lent),
+        |lent| judge(&TransitionSystem::of(&read(text)), full_set, lent),
+    );
+    let cores =
+        timed_with_bytes(|lent| calls::cores(text, lent), |lent| write_list(&verdicts(text).cores(), lent));
+    let cuts =
+        timed_with_bytes(|lent| calls::cuts(text, lent), |lent| write_list(&verdicts(text).cuts(), lent));
+    format!(
+        "{:<22} {bits:>1} {:>2} {:>5} {:>5} |{judged} |{cores} |{cuts} |{} |{} |{}",
+        model.name,
+        rules.len(),
+        cores.answer.expect("enough bytes lent"),
+        cuts.answer.expect("enough bytes lent"),
+        model.next_to_none(|text, lent| calls::judge(text, full_set, lent)),
+        model.next_to_none(calls::cores),
+        model.next_to_none(calls::cuts)
+    )
 }
 
 /// Lists of which every set is passed over, as long as any model's.

@@ -24,7 +24,10 @@ impl Answers {
     }
 
     pub fn of_model(model: &Model) -> Answers {
-        let system = TransitionSystem::of(model);
+        Answers::of_system(TransitionSystem::of(model))
+    }
+
+    pub fn of_system(system: TransitionSystem) -> Answers {
         let verdicts = Verdicts::of(&system);
         let cores = verdicts.cores();
         let cuts = verdicts.cuts();

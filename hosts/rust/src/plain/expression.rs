@@ -18,11 +18,13 @@ pub enum Expression {
     Alike(Box<Expression>, Box<Expression>),
 }
 
-/// Whether capital letters may stand in an expression: they may in rules only.
+/// Where an expression stands. Capital letters may stand in the step part of a rule only.
 #[derive(Clone, Copy, Debug, PartialEq, Eq)]
 pub enum Place {
-    InitOrProp,
-    Rule,
+    /// `init`, a property or the start part of a rule: it speaks of one state.
+    State,
+    /// The step part of a rule: it speaks of a state and the state one second later.
+    Step,
 }
 
 impl Expression {
@@ -61,7 +63,7 @@ pub fn read(bytes: &[u8], bits: usize, place: Place) -> Result<Expression, Reaso
 fn letter_allowed(byte: u8, bits: usize, place: Place) -> bool {
     match byte {
         b'a'..=b'g' => b"abcdefg"[..bits].contains(&byte),
-        b'A'..=b'G' => place == Place::Rule && b"ABCDEFG"[..bits].contains(&byte),
+        b'A'..=b'G' => place == Place::Step && b"ABCDEFG"[..bits].contains(&byte),
         _ => true,
     }
 }

@@ -2,7 +2,7 @@
 //!
 //! * [`expression`]: what an expression is, how it is read, its value.
 //! * [`text`]: how a model text is read, and the numbers 1 to 9.
-//! * [`system`]: the transition system of a model: start states, bad states, steps, reached states.
+//! * [`system`]: the transition system of a model: the start states and the steps of a set, bad states, reached states.
 //! * [`trace`]: the shortest run to a bad state, the first of its length.
 //! * [`reached`]: the reached states of a set, in the order of marking, and the pairs that are tried for them.
 //! * [`sets`]: every rule set judged; cores, cuts, MUST, MAY and the irrelevant rules by definition.

@@ -9,10 +9,11 @@ pub struct Collected {
     pub pairs: usize,
 }
 
-/// Marks the start states first, by number; then each marked state, in the order of marking, is tried once as the first of a
-/// pair with every state by number, marked or not. It ends as soon as every state is marked.
+/// Marks the set's start states first, by number; then each marked state, in the order of marking, is tried once as the first
+/// of a pair with every state by number, marked or not. It ends as soon as every state is marked.
 pub fn collect(system: &TransitionSystem, set: u16) -> Collected {
-    let mut marked: Vec<usize> = (0..system.states).filter(|state| system.start[*state]).collect();
+    let start = system.start_states(set);
+    let mut marked: Vec<usize> = (0..system.states).filter(|state| start[*state]).collect();
     let mut pairs = 0;
     let mut place = 0;
     while place < marked.len() {

@@ -6,7 +6,7 @@ use super::text::{self, Model};
 use super::trace::trace;
 
 /// No more bytes of the input than these are judged.
-pub const JUDGED: usize = 2048;
+pub const JUDGED: usize = 4096;
 
 /// The whole report on an input: every byte that the report program prints.
 pub fn report(input: &[u8]) -> Vec<u8> {

@@ -15,7 +15,10 @@ pub struct Model {
 #[derive(Clone, Debug, PartialEq, Eq)]
 pub struct Rule {
     pub name: Vec<u8>,
-    pub expression: Expression,
+    /// Which pairs of states the rule allows.
+    pub step: Expression,
+    /// In which states the rule lets a run start; `1` where the line has no start part.
+    pub start: Expression,
 }
 
 const MOST_PROPERTIES: usize = 4;
@@ -28,7 +31,7 @@ pub fn read(text: &[u8]) -> Result<Model, Refused> {
     let value = lines.value_due(b"rules=")?;
     let rule_count = lines.in_this_line(read_count(value, 16))?;
     let value = lines.value_due(b"init=")?;
-    let init = lines.in_this_line(expression::read(value, bits, Place::InitOrProp))?;
+    let init = lines.in_this_line(expression::read(value, bits, Place::State))?;
     let properties = read_properties(&mut lines, bits)?;
     let mut rules = Vec::new();
     for _ in 0..rule_count {
@@ -49,7 +52,7 @@ fn read_properties(lines: &mut Lines, bits: usize) -> Result<Vec<Expression>, Re
     let mut properties = Vec::new();
     loop {
         let value = lines.value_due(KEY)?;
-        properties.push(lines.in_this_line(expression::read(value, bits, Place::InitOrProp))?);
+        properties.push(lines.in_this_line(expression::read(value, bits, Place::State))?);
         if properties.len() == MOST_PROPERTIES || !lines.rest.starts_with(KEY) {
             return Ok(properties);
         }
@@ -84,16 +87,33 @@ fn read_count(value: &[u8], largest: usize) -> Result<usize, Reason> {
 }
 
 fn read_rule(value: &[u8], bits: usize, earlier: &[Rule]) -> Result<Rule, Reason> {
-    let colon = value.iter().position(|byte| *byte == b':').ok_or(Reason::Name)?;
-    let name = &value[..colon];
+    let (name, expressions) = at_first_colon(value).ok_or(Reason::Name)?;
     if !is_name(name) {
         return Err(Reason::Name);
     }
     if earlier.iter().any(|rule| rule.name == name) {
         return Err(Reason::NameTwice);
     }
-    let expression = expression::read(&value[colon + 1..], bits, Place::Rule)?;
-    Ok(Rule { name: name.to_vec(), expression })
+    let (step, start) = read_parts(expressions, bits)?;
+    Ok(Rule { name: name.to_vec(), step, start })
+}
+
+/// The step part goes up to the second `:` of the line, and the start part is all that follows it, a third `:` included. It
+/// is looked at only if the step part has passed.
+fn read_parts(bytes: &[u8], bits: usize) -> Result<(Expression, Expression), Reason> {
+    match at_first_colon(bytes) {
+        None => Ok((expression::read(bytes, bits, Place::Step)?, Expression::Constant(true))),
+        Some((step, start)) => {
+            let step = expression::read(step, bits, Place::Step)?;
+            Ok((step, expression::read(start, bits, Place::State)?))
+        }
+    }
+}
+
+/// What stands before the first `:`, and what stands after it; none if there is no `:`.
+fn at_first_colon(bytes: &[u8]) -> Option<(&[u8], &[u8])> {
+    let colon = bytes.iter().position(|byte| *byte == b':')?;
+    Some((&bytes[..colon], &bytes[colon + 1..]))
 }
 
 fn is_name(name: &[u8]) -> bool {

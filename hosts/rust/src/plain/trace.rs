@@ -9,8 +9,9 @@ use super::system::TransitionSystem;
 /// shortest run consists of a smallest shortest run to its last state but one and one more step, so no other run needs
 /// to be kept.
 pub fn trace(system: &TransitionSystem, set: u16) -> Option<Vec<u8>> {
+    let start = system.start_states(set);
     let mut layer: Vec<Vec<u8>> =
-        (0..system.states).filter(|state| system.start[*state]).map(|state| vec![state as u8]).collect();
+        (0..system.states).filter(|state| start[*state]).map(|state| vec![state as u8]).collect();
     let mut seen = vec![false; system.states];
     while !layer.is_empty() {
         if let Some(run) = layer.iter().filter(|run| system.bad[last(run)]).min() {

@@ -1,11 +1,13 @@
 //! Damaged texts: bytes dropped, put in and changed, lines swapped and repeated, cut off, and the faults that chance
-//! alone would seldom make, among them too many, missing and misplaced property lines.
+//! alone would seldom make, among them too many, missing and misplaced property lines, and start parts of every kind.
+
+use std::ops::Range;
 
 use super::generator::Random;
 
 type Damage = fn(&mut Random, Vec<u8>) -> Vec<u8>;
 
-const DAMAGES: [Damage; 19] = [
+const DAMAGES: [Damage; 22] = [
     drop_byte,
     put_in_byte,
     change_byte,
@@ -19,6 +21,9 @@ const DAMAGES: [Damage; 19] = [
     lengthen_expression,
     empty_value,
     capital_letter,
+    add_start_part,
+    drop_start_parts,
+    exchange_parts,
     repeat_property,
     five_properties,
     drop_properties,
@@ -121,7 +126,7 @@ fn change_count(random: &mut Random, text: Vec<u8>) -> Vec<u8> {
 /// The name of one rule line is given to another.
 fn repeat_name(random: &mut Random, text: Vec<u8>) -> Vec<u8> {
     let lines = lines(&text);
-    let rules = places_of(&lines, b"rule=");
+    let rules = places_of(&lines, RULE);
     if rules.len() < 2 {
         return text;
     }
@@ -136,36 +141,84 @@ fn repeat_name(random: &mut Random, text: Vec<u8>) -> Vec<u8> {
 fn lengthen_expression(random: &mut Random, text: Vec<u8>) -> Vec<u8> {
     let place = random.below(lines(&text).len() + 1);
     change_line(text, place, |line| {
-        let start = after_name(line).max(after_key(line));
+        let mut part = random_expression(random, line);
         let length = random.pick(&[63, 64, 65, 66, 100]);
-        while line.len() < start + length + 1 {
-            line.insert(start, b'!');
+        while part.len() < length {
+            line.insert(part.start, b'!');
+            part.end += 1;
         }
     })
 }
 
-/// Nothing after a key or name.
+/// Nothing after a key, a name or the `:` of a start part, or nothing where the step part was.
 fn empty_value(random: &mut Random, text: Vec<u8>) -> Vec<u8> {
     let place = random.below(lines(&text).len() + 1);
     change_line(text, place, |line| {
-        let start = if random.percent(80) { after_name(line).max(after_key(line)) } else { after_key(line) };
-        line.splice(start.., [b'\n']);
+        let part = if random.percent(80) { random_expression(random, line) } else { value(line) };
+        line.drain(part);
     })
 }
 
-/// A capital letter in `init` or a property, in place of the first letter there.
+/// A capital letter in `init`, a property or a start part, in place of the first letter there.
 fn capital_letter(random: &mut Random, text: Vec<u8>) -> Vec<u8> {
     let lines = lines(&text);
-    let places = [places_of(&lines, b"init="), places_of(&lines, PROPERTY)].concat();
+    let with_start_part = places_of(&lines, RULE).into_iter().filter(|place| has_start_part(&lines[*place]));
+    let places =
+        [places_of(&lines, b"init="), places_of(&lines, PROPERTY), with_start_part.collect()].concat();
     if places.is_empty() {
         return text;
     }
     change_line(text, random.pick(&places), |line| {
-        let start = after_key(line);
-        if let Some(letter) = line[start..].iter_mut().find(|byte| byte.is_ascii_lowercase()) {
+        let (first, start_part) = expressions(line);
+        let part = start_part.unwrap_or(first);
+        if let Some(letter) = line[part].iter_mut().find(|byte| byte.is_ascii_lowercase()) {
             letter.make_ascii_uppercase();
         }
     })
+}
+
+const RULE: &[u8] = b"rule=";
+
+/// A start part at the end of a rule line, mostly an improper one; where there is one already, its `:` is the third.
+fn add_start_part(random: &mut Random, text: Vec<u8>) -> Vec<u8> {
+    const STARTS: [&str; 14] =
+        [":1", ":!a", ":|a!a", ":", "::", ":A", ":!B", ":g", ":h", ": a", ":&a", ":aa", ":a:1", ":1\r"];
+    change_rule_line(random, text, |random, line| {
+        let end = line.len() - 1;
+        line.splice(end..end, random.pick(&STARTS).bytes());
+    })
+}
+
+/// No rule has one any more.
+fn drop_start_parts(_: &mut Random, text: Vec<u8>) -> Vec<u8> {
+    let mut lines = lines(&text);
+    for line in lines.iter_mut().filter(|line| line.starts_with(RULE) && has_start_part(line)) {
+        let (step, _) = expressions(line);
+        line.splice(step.end.., [b'\n']);
+    }
+    lines.concat()
+}
+
+/// The start part stands before the step part.
+fn exchange_parts(random: &mut Random, text: Vec<u8>) -> Vec<u8> {
+    change_rule_line(random, text, |_, line| {
+        if let (step, Some(start)) = expressions(line) {
+            let exchanged = [&line[start.clone()], b":", &line[step.clone()]].concat();
+            line.splice(step.start..start.end, exchanged);
+        }
+    })
+}
+
+fn change_rule_line(
+    random: &mut Random,
+    text: Vec<u8>,
+    change: impl FnOnce(&mut Random, &mut Vec<u8>),
+) -> Vec<u8> {
+    let places = places_of(&lines(&text), RULE);
+    if places.is_empty() {
+        return text;
+    }
+    change_line(text, random.pick(&places), |line| change(random, line))
 }
 
 const PROPERTY: &[u8] = b"prop=";
@@ -253,4 +306,31 @@ fn after_key(line: &[u8]) -> usize {
 
 fn after_name(line: &[u8]) -> usize {
     line.iter().position(|byte| *byte == b':').map_or(0, |place| place + 1)
+}
+
+/// Where the expression of a line stands, or the step part of a rule; and where its start part stands, if it has one.
+fn expressions(line: &[u8]) -> (Range<usize>, Option<Range<usize>>) {
+    let Range { start, end } = value(line);
+    let first = after_name(line).clamp(start, end);
+    match line[first..end].iter().position(|byte| *byte == b':') {
+        Some(length) => (first..first + length, Some(first + length + 1..end)),
+        None => (first..end, None),
+    }
+}
+
+/// Where that stands which follows the key.
+fn value(line: &[u8]) -> Range<usize> {
+    let end = line.len() - 1;
+    after_key(line).min(end)..end
+}
+
+fn has_start_part(line: &[u8]) -> bool {
+    expressions(line).1.is_some()
+}
+
+fn random_expression(random: &mut Random, line: &[u8]) -> Range<usize> {
+    match expressions(line) {
+        (_, Some(start_part)) if random.percent(50) => start_part,
+        (first, _) => first,
+    }
 }

@@ -6,6 +6,7 @@ pub mod lists;
 pub mod models;
 pub mod orders;
 pub mod properties;
+pub mod start_parts;
 pub mod written;
 
 pub use generator::Random;

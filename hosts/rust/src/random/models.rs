@@ -2,7 +2,9 @@
 
 use super::generator::Random;
 use super::properties::with_several_properties;
-use super::written::{expression, join, later, literal, names, now, pad, Written};
+use super::start_parts::with_start_parts;
+use super::written::{expression, join, later, literal, names, now, pad, Written, WrittenRule};
+use crate::plain::expression::Place;
 
 #[derive(Clone, Copy, Debug, PartialEq, Eq)]
 pub enum Kind {
@@ -23,12 +25,15 @@ pub enum Kind {
 pub const KINDS: [Kind; 6] =
     [Kind::Wild, Kind::Clauses, Kind::Alternatives, Kind::Joint, Kind::Counter, Kind::Dense];
 
-/// A model of a random kind with one to four properties, one in five with a twist.
+/// A model of a random kind with one to four properties, every other one with start parts, one in five with a twist.
 pub fn model(random: &mut Random, bits: usize, rules: usize) -> Written {
     let kind = random.pick(&KINDS);
     let mut written = model_of(random, kind, bits, rules);
     let count = random.between(1, 4);
     with_several_properties(random, &mut written, count);
+    if random.percent(50) {
+        with_start_parts(random, &mut written);
+    }
     match random.below(20) {
         0 => without_start_state(random, &mut written),
         1 => with_contradiction(random, &mut written),
@@ -39,7 +44,7 @@ pub fn model(random: &mut Random, bits: usize, rules: usize) -> Written {
     written
 }
 
-/// A model with one property.
+/// A model with one property and no start part.
 pub fn model_of(random: &mut Random, kind: Kind, bits: usize, rules: usize) -> Written {
     let (init, prop, mut expressions) = match kind {
         Kind::Wild => wild(random, bits, rules),
@@ -50,20 +55,21 @@ pub fn model_of(random: &mut Random, kind: Kind, bits: usize, rules: usize) -> W
         Kind::Dense => dense(random, bits, rules),
     };
     random.shuffle(&mut expressions);
-    let rules = names(random, rules).into_iter().zip(expressions).collect();
+    let rules = names(random, rules).into_iter().zip(expressions);
+    let rules = rules.map(|(name, step)| WrittenRule::new(name, step)).collect();
     Written { bits, init, properties: vec![prop], rules }
 }
 
-/// `init`, the property, and the expressions of the rules.
+/// `init`, the property, and the step parts of the rules.
 type Parts = (String, String, Vec<String>);
 
 fn wild(random: &mut Random, bits: usize, rules: usize) -> Parts {
-    let mut free = |in_rule| {
+    let mut free = |place| {
         let longest = random.pick(&[3, 8, 20, 64]);
         let length = random.between(1, longest);
-        expression(random, bits, in_rule, length)
+        expression(random, bits, place, length)
     };
-    (free(false), free(false), (0..rules).map(|_| free(true)).collect())
+    (free(Place::State), free(Place::State), (0..rules).map(|_| free(Place::Step)).collect())
 }
 
 fn clauses(random: &mut Random, bits: usize, rules: usize) -> Parts {
@@ -152,7 +158,7 @@ fn counter(random: &mut Random, bits: usize, rules: usize) -> Parts {
         1 => format!("!{}", now(bits - 1)),
         _ => {
             let length = random.between(1, 7);
-            expression(random, bits, false, length)
+            expression(random, bits, Place::State, length)
         }
     };
     let mut expressions: Vec<String> = (0..bits.min(rules)).map(counted_bit).collect();
@@ -179,7 +185,7 @@ fn counted_bit(bit: usize) -> String {
 /// The counter that goes from 0 through every state to the one with all bits set, which is bad.
 pub fn full_counter(bits: usize) -> Written {
     let all: Vec<String> = (0..bits).map(now).collect();
-    let rules = (0..bits).map(|bit| (now(bit), counted_bit(bit))).collect();
+    let rules = (0..bits).map(|bit| WrittenRule::new(now(bit), counted_bit(bit))).collect();
     Written { bits, init: none_of(&all), properties: vec![format!("!{}", join('&', &all))], rules }
 }
 
@@ -213,29 +219,30 @@ fn without_start_state(random: &mut Random, written: &mut Written) {
 fn with_contradiction(random: &mut Random, written: &mut Written) {
     let count = written.rules.len();
     if count == 1 {
-        written.rules[0].1 = "0".to_string();
+        written.rules[0].step = "0".to_string();
         return;
     }
     let first = random.below(count);
     let second = (first + random.between(1, count - 1)) % count;
     let length = random.between(1, 12);
-    let one = expression(random, written.bits, true, length);
-    written.rules[second].1 = format!("!{one}");
-    written.rules[first].1 = one;
+    let one = expression(random, written.bits, Place::Step, length);
+    written.rules[second].step = format!("!{one}");
+    written.rules[first].step = one;
 }
 
 /// A rule that no step from some states meets.
 fn without_successors(random: &mut Random, written: &mut Written) {
     let place = random.below(written.rules.len());
     let length = random.between(1, 6);
-    written.rules[place].1 = expression(random, written.bits, false, length);
+    written.rules[place].step = expression(random, written.bits, Place::State, length);
 }
 
 /// Expressions of 62 to 64 bytes that mean the same as before.
 fn with_long_expressions(random: &mut Random, written: &mut Written) {
-    for place in 0..written.rules.len() {
+    for rule in &mut written.rules {
         let length = random.between(62, 64);
-        written.rules[place].1 = pad(random, &written.rules[place].1, length);
+        rule.step = pad(random, &rule.step, length);
+        rule.start = rule.start.as_ref().map(|start| pad(random, start, length));
     }
     written.init = pad(random, &written.init, 64);
     for property in &mut written.properties {

@@ -42,8 +42,8 @@ pub fn with_several_properties(random: &mut Random, written: &mut Written, count
 }
 
 /// A random state that meets `init`, or any if none does.
-fn start_state(random: &mut Random, written: &Written) -> usize {
-    let init = read(written.init.as_bytes(), written.bits, Place::InitOrProp).expect("an accepted model");
+pub(super) fn start_state(random: &mut Random, written: &Written) -> usize {
+    let init = read(written.init.as_bytes(), written.bits, Place::State).expect("an accepted model");
     let starts: Vec<usize> = (0..1 << written.bits).filter(|state| init.value(*state, 0)).collect();
     if starts.is_empty() {
         return random.below(1 << written.bits);
@@ -82,7 +82,7 @@ fn property(random: &mut Random, written: &Written, start: usize, bit: usize) ->
         17 => "1".to_string(),
         _ => {
             let length = random.between(1, 7);
-            expression(random, bits, false, length)
+            expression(random, bits, Place::State, length)
         }
     }
 }

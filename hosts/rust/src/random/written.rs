@@ -1,6 +1,7 @@
 //! Models and expressions as they are written.
 
 use super::generator::Random;
+use crate::plain::expression::Place;
 
 /// A model before it is text.
 #[derive(Clone, Debug)]
@@ -8,8 +9,30 @@ pub struct Written {
     pub bits: usize,
     pub init: String,
     pub properties: Vec<String>,
-    /// Names and expressions.
-    pub rules: Vec<(String, String)>,
+    pub rules: Vec<WrittenRule>,
+}
+
+/// A rule before it is a line.
+#[derive(Clone, Debug, PartialEq, Eq)]
+pub struct WrittenRule {
+    pub name: String,
+    pub step: String,
+    pub start: Option<String>,
+}
+
+impl WrittenRule {
+    /// Without a start part.
+    pub fn new(name: String, step: String) -> WrittenRule {
+        WrittenRule { name, step, start: None }
+    }
+
+    fn line(&self) -> String {
+        let WrittenRule { name, step, start } = self;
+        match start {
+            None => format!("rule={name}:{step}\n"),
+            Some(start) => format!("rule={name}:{step}:{start}\n"),
+        }
+    }
 }
 
 impl Written {
@@ -19,10 +42,15 @@ impl Written {
         for property in properties {
             text += &format!("prop={property}\n");
         }
-        for (name, expression) in rules {
-            text += &format!("rule={name}:{expression}\n");
+        for rule in rules {
+            text += &rule.line();
         }
         text.into_bytes()
+    }
+
+    /// How many of its rules have a start part.
+    pub fn start_parts(&self) -> usize {
+        self.rules.iter().filter(|rule| rule.start.is_some()).count()
     }
 
     /// The same rules with other properties.
@@ -59,29 +87,36 @@ pub fn join(operator: char, operands: &[String]) -> String {
     operators.collect::<String>() + &operands[operands.len() - 1]
 }
 
-/// An expression of exactly `length` bytes over the first `bits` bits, with capital letters if `in_rule`.
-pub fn expression(random: &mut Random, bits: usize, in_rule: bool, length: usize) -> String {
+/// An expression of exactly `length` bytes over the first `bits` bits, with capital letters in the step part of a rule.
+pub fn expression(random: &mut Random, bits: usize, place: Place, length: usize) -> String {
     match length {
-        1 => leaf(random, bits, in_rule),
-        2 => format!("!{}", expression(random, bits, in_rule, 1)),
-        _ if random.percent(15) => format!("!{}", expression(random, bits, in_rule, length - 1)),
+        1 => leaf(random, bits, place),
+        2 => format!("!{}", expression(random, bits, place, 1)),
+        _ if random.percent(15) => format!("!{}", expression(random, bits, place, length - 1)),
         _ => {
             let operator = random.pick(&['&', '|', '>', '=']);
             let first = random.between(1, length - 2);
-            let one = expression(random, bits, in_rule, first);
-            let two = expression(random, bits, in_rule, length - 1 - first);
+            let one = expression(random, bits, place, first);
+            let two = expression(random, bits, place, length - 1 - first);
             format!("{operator}{one}{two}")
         }
     }
 }
 
-fn leaf(random: &mut Random, bits: usize, in_rule: bool) -> String {
+fn leaf(random: &mut Random, bits: usize, place: Place) -> String {
     let bit = random.below(bits);
     match random.below(20) {
         0 => random.pick(&["0", "1"]).to_string(),
-        1..=10 if in_rule => later(bit),
+        1..=10 if place == Place::Step => later(bit),
         _ => now(bit),
     }
+}
+
+/// An expression of any length, short ones more often.
+pub fn any_expression(random: &mut Random, bits: usize, place: Place) -> String {
+    let longest = random.pick(&[1, 3, 8, 20, 64]);
+    let length = random.between(1, longest);
+    expression(random, bits, place, length)
 }
 
 /// Lengthens an expression to `length` bytes without changing its value, unless one byte alone is missing.

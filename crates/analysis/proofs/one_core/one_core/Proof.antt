@@ -1,4 +1,4 @@
--- `analysis::one_core::one_core` meets its contract: either array has room for the masks.
+-- `analysis::one_core::one_core` meets its contract: each array has room for the masks.
 -- Assumes nothing.
 use native.Mathlib.Omega.{arith}
 use Rattle.semantics.specs.Laws.Filled.{repeats, array-room}
@@ -9,9 +9,12 @@ pub one-core-spec : {M : Type 1} → statement M
 one-core-spec =
     tie.close
     (tie.spec
-    (λ c. repeats 1024 0)
-    (λ c κs. let p = c .before .before .before .before .before .pre in (array-room 1024 3 (omega arith) (omega (arith, c .before .if1 .taken)) (p .0), p .1))
-    (λ c. repeats 16384 0)
-    (λ c κs. let p = c .before .before .before .before .before .pre in (array-room 16384 7 (omega arith) (p .0 .vars) (p .0), p .1))
+    (λ c. repeats 640 0)
+    (λ c κs. let p = c .before .before .before .before .before .pre in (array-room 640 2 (omega arith) (omega (arith, c .before .if1 .taken)) (p .0), p .1))
+    (λ c. repeats 2176 0)
+    (λ c κs. let p = c .before .before .before .before .before .before .before .pre in (array-room 2176 4 (omega arith) (omega (arith, c .before .if2 .taken)) (p .0), p .1))
+    (λ c. repeats 16512 0)
+    (λ c κs. let p = c .before .before .before .before .before .before .before .pre in (array-room 16512 7 (omega arith) (p .0 .vars) (p .0), p .1))
     (λ c. c .before .one-core-with .ensures)
-    (λ c. c .before .one-core-with2 .ensures))
+    (λ c. c .before .one-core-with2 .ensures)
+    (λ c. c .before .one-core-with3 .ensures))

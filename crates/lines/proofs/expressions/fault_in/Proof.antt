@@ -2,7 +2,7 @@
 -- Assumes nothing.
 use Prim.Native.Nat.{ℕ, _≤_, _<_}
 use mathlib.Core.Path.{_≡_, sym, ap, _∙_}
-use mathlib.Core.Bool.{Bool, true, false, _&&_, and-false}
+use mathlib.Core.Bool.{Bool, true, false, _&&_, and-false, and-eq-true-iff}
 use mathlib.Core.List.{List}
 use native.Mathlib.Omega.{arith}
 use borrow.Author.Needs.{needs}
@@ -10,10 +10,11 @@ use borrow.Author.Tests.{le-leb, lt-leb, eq-eqb, ne-eqb}
 use lib.Dec.{leb}
 use lib.ListN.{length}
 use Rattle.lines.specs.declared.classes.Class.{Class}
-use Rattle.lines.specs.declared.classes.Class.the-variants.{InExpression, Allowed}
+use Rattle.lines.specs.declared.classes.Class.the-variants.{InExpression, Allowed, InExpressionOf}
 use Rattle.lines.specs.Bytes.{prefix}
 use Rattle.lines.specs.Lines.{all, isOne, faultOf}
 use Rattle.lines.specs.Laws.Numbers.{expression-numbers}
+use Rattle.lines.specs.Laws.Bytes.{all-in-expression-of}
 use Rattle.lines.proofs.expressions.fault_in.Statement.{statement}
 use Rattle.lines.proofs.expressions.fault_in.Tie as tie
 
@@ -50,6 +51,14 @@ not-all : (k : Class) (e : List ℕ) (n : ℕ) → n ≡ prefix k e → (n ≡ l
 unfolding all
 not-all k e n p h = ne-eqb (prefix k e) (length e) (λ q. h (p ∙ q))
 
+-- the bytes that are gone over once
+module _ (vars : ℕ) (capitals : Bool) (e : List ℕ) where
+  both : all (InExpressionOf vars capitals) e ≡ true → (all InExpression e ≡ true) × (all (Allowed vars capitals) e ≡ true)
+  both h = and-eq-true-iff (all InExpression e) (all (Allowed vars capitals) e) .0 (sym (all-in-expression-of vars capitals e) ∙ h)
+
+  letter-left : all (InExpressionOf vars capitals) e ≡ false → all InExpression e ≡ true → all (Allowed vars capitals) e ≡ false
+  letter-left h b = sym (ap (λ x. x && all (Allowed vars capitals) e) b) ∙ sym (all-in-expression-of vars capitals e) ∙ h
+
 pub fault-in-spec : {M : Type 1} → statement M
 fault-in-spec =
     tie.close
@@ -57,18 +66,18 @@ fault-in-spec =
     (λ c. too-short _ _ _ (omega arith))
     (λ c. too-long _ _ _ (c .if2 .taken))
     (λ c κs. search needs)
-    (λ c. wrong-byte _ _ _ (omega arith) (omega arith) (not-all _ _ _ (c .before .prefix-of .ensures) (c .if3 .taken)))
+    (λ c κs. search needs)
+    (λ c. wrong-byte _ _ _ (omega arith) (omega arith) (not-all _ _ _ (c .before .prefix-of2 .ensures) (c .if4 .taken)))
+    (λ c.
+    let t = c .before .before in
+    let bytes = all-in _ _ _ (c .before .prefix-of2 .ensures) (c .if4 .left) in
+    wrong-letter _ _ _ (omega arith) (omega arith) bytes (letter-left _ _ _ (not-all _ _ _ (t .before .prefix-of .ensures) (t .if3 .taken)) bytes))
     (λ c κs. search needs)
     (λ c.
-    let d = c .before .before .before in
-    wrong-letter _ _ _ (omega arith) (omega arith) (all-in _ _ _ (d .prefix-of .ensures) (c .before .before .if3 .left))
-    (not-all _ _ _ (c .before .prefix-of2 .ensures) (c .if4 .taken)))
-    (λ c κs. search needs)
+    let l = c .before .before in
+    let b = both _ _ _ (all-in _ _ _ (l .before .prefix-of .ensures) (l .if3 .left)) in
+    right _ _ _ (omega arith) (omega arith) (b .0) (b .1) (sym (c .before .is-one .ensures) ∙ c .if5 .taken))
     (λ c.
-    let d = c .before .before .before .before .before in
-    right _ _ _ (omega arith) (omega arith) (all-in _ _ _ (d .prefix-of .ensures) (c .before .before .before .before .if3 .left))
-    (all-in _ _ _ (c .before .before .before .prefix-of2 .ensures) (c .before .before .if4 .left)) (sym (c .before .is-one .ensures) ∙ c .if5 .taken))
-    (λ c.
-    let d = c .before .before .before .before .before in
-    not-one _ _ _ (omega arith) (omega arith) (all-in _ _ _ (d .prefix-of .ensures) (c .before .before .before .before .if3 .left))
-    (all-in _ _ _ (c .before .before .before .prefix-of2 .ensures) (c .before .before .if4 .left)) (sym (c .before .is-one .ensures) ∙ c .if5 .left)))
+    let l = c .before .before in
+    let b = both _ _ _ (all-in _ _ _ (l .before .prefix-of .ensures) (l .if3 .left)) in
+    not-one _ _ _ (omega arith) (omega arith) (b .0) (b .1) (sym (c .before .is-one .ensures) ∙ c .if5 .left)))

@@ -15,4 +15,4 @@ finish-spec =
     (λ c. rw (c .refuse .ensures, ne-eqb _ _ (c .before .if1 .taken)))
     (λ c κs. search needs)
     (λ c. rw (c .refuse2 .ensures, eq-eqb _ _ (c .before .before .before .if1 .left), lt-ltb _ _ (c .before .if2 .taken)))
-    (λ c. rw (eq-eqb _ _ (c .before .before .before .before .before .if1 .left), le-ltb _ _ (c .before .before .before .if2 .left))))
+    (λ c. let e = c .before .before .before .before in rw (eq-eqb _ _ (e .before .before .if1 .left), le-ltb _ _ (e .if2 .left))))

@@ -10,4 +10,4 @@ pub with-rule-spec : {M : Type 1} → statement M
 unfolding withRule
 with-rule-spec =
     tie.close
-    (tie.spec (λ c. search needs) (λ c. search needs) (λ c. search needs) (λ c. search needs) (λ c. refl))
+    (tie.spec (λ c. search needs) (λ c. search needs) (λ c. search needs) (λ c. search needs) (λ c. search needs) (λ c. refl))

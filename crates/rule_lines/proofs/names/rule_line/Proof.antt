@@ -10,14 +10,16 @@ use borrow.Author.Needs.{needs}
 use borrow.Author.Tests.{leb-true, not-true, not-false}
 use lib.Dec.{leb, eqb}
 use lib.ListN.{length, getD, take, drop, length-drop}
-use Rattle.lines.specs.declared.classes.Class.the-variants.{InName}
+use Rattle.lines.specs.declared.classes.Class.the-variants.{InName, InPart}
 use Rattle.lines.specs.declared.line.End.{End}
 use Rattle.lines.specs.declared.line.End.the-variants.{Missing}
 use Rattle.rule_lines.specs.declared.names.RuleLine.the-variants.{RuleFault, RuleRead}
 use Rattle.lines.specs.Bytes.{prefix}
-use Rattle.lines.specs.Lines.{ruleKey, lineLength, endOf, valueOf, unlessFault, faultOf}
-use Rattle.rule_lines.specs.RuleLines.{isNamed, partsAt, ruleLine}
+use Rattle.lines.specs.Lines.{ruleKey, lineLength, endOf, valueOf, unlessFault}
+use Rattle.rule_lines.specs.RuleLines.{isNamed, stepLength, startFrom, partsFault, partsAt, ruleLine}
+use Rattle.rule_lines.specs.declared.names.RuleParts.{RuleParts}
 use Rattle.rule_lines.specs.Laws.Numbers.{RuleNumbers, rule-numbers}
+use Rattle.rule_lines.specs.Laws.Parts.{step-short}
 use Rattle.lines.specs.Laws.Lines.{unfaulted}
 use Rattle.lines.specs.Laws.Ended.{Ended, ended, no-end, end-within, value-is, faulted}
 use Rattle.rule_lines.proofs.names.rule_line.Statement.{statement}
@@ -31,6 +33,11 @@ named-of : (v : List ℕ) {k b : ℕ} {x : Bool} → k ≡ prefix InName v → b
 unfolding isNamed
 named-of v {k} {b} {x} pk pb px =
     ap (λ n. leb 1 n && (leb n 8 && eqb (getD v n 0) 58)) (sym pk) ∙ ap (λ a. leb 1 k && (leb k 8 && eqb a 58)) (sym pb) ∙ sym px
+
+-- a step part that has passed is short
+short-step : (vars : ℕ) (e : List ℕ) {step number : ℕ} → step ≡ prefix InPart e → number ≡ partsFault vars step e → number ≡ 0 → step ≤ 64
+unfolding stepLength
+short-step vars e ps pf h = rw ps (step-short vars e (ap (λ n. partsFault vars n e) (sym ps) ∙ sym pf ∙ h))
 
 -- A line s that ends at `end`: its value v, the length k of the name at its start, and whether the name is proper.
 record Valued (s : List ℕ) (end : ℕ) (v : List ℕ) (k : ℕ) (x : Bool) : Type 0 where
@@ -60,18 +67,27 @@ module _ (vars : ℕ) (taken : List ℕ → Bool) (at : ℕ) {s : List ℕ} {end
     repeated : y ≡ true → RuleFault 4 ≡ ruleLine vars taken at s
     repeated h = sym (numbers .byTaken (l .line .line) (proper-is ∙ good) (taken-is ∙ h))
 
-    module _ (fresh : y ≡ false) {r : List ℕ} (pr : r ≡ drop (k + 1) v) {number : ℕ} (pf : number ≡ faultOf vars true r) where
-      number-is : faultOf vars true (drop (k + 1) v) ≡ number
-      number-is = ap (faultOf vars true) (sym pr) ∙ sym pf
+    module _ (fresh : y ≡ false) {e : List ℕ} (pe : e ≡ drop (k + 1) v) {step : ℕ} (ps : step ≡ prefix InPart e) {number : ℕ} (pf : number ≡ partsFault vars step e) where
+      length-is : stepLength e ≡ step
+      unfolding stepLength
+      length-is = sym ps
 
-      opened : ruleLine vars taken at s ≡ unlessFault RuleFault number (RuleRead (partsAt at k) (lineLength s + 1))
-      opened = numbers .byRest (l .line .line) (proper-is ∙ good) (taken-is ∙ fresh) ∙ rw (v-is, ← l .name, number-is)
+      number-is : partsFault vars (stepLength e) e ≡ number
+      number-is = ap (λ n. partsFault vars n e) length-is ∙ sym pf
+
+      opened : ruleLine vars taken at s ≡ unlessFault RuleFault number (RuleRead (partsAt at k e) (lineLength s + 1))
+      opened = numbers .byRest (l .line .line) (proper-is ∙ good) (taken-is ∙ fresh) ∙ rw (v-is, ← l .name, ← pe, number-is)
 
       at-fault : number ≢ 0 → RuleFault number ≡ ruleLine vars taken at s
       at-fault h = sym (opened ∙ faulted RuleFault number _ h)
 
-      read : number ≡ 0 → RuleRead (partsAt at k) (end + 1) ≡ ruleLine vars taken at s
-      read h = sym (opened ∙ unfaulted RuleFault number _ h ∙ ap (λ n. RuleRead (partsAt at k) (n + 1)) (sym (l .line .length-is)))
+      read : number ≡ 0 → {start : ℕ} → start ≡ startFrom step e
+          → RuleRead (record { name = at + 5; step = at + (6 + k); start = start }) (end + 1) ≡ ruleLine vars taken at s
+      unfolding partsAt
+      read h {start} pa =
+          let start-is : start ≡ startFrom (stepLength e) e = pa ∙ ap (λ n. startFrom n e) (sym length-is) in
+          ap (λ x. RuleRead (record { name = at + 5; step = at + (6 + k); start = x }) (end + 1)) start-is
+          ∙ sym (opened ∙ unfaulted RuleFault number _ h ∙ ap (λ n. RuleRead (partsAt at k e) (n + 1)) (sym (l .line .length-is)))
 
 -- ---- the places of the code, each named from the one before it
 
@@ -124,6 +140,17 @@ module _ (p : tie.After-is-taken) where
   good : named .is-named .result ≡ true
   good = not-false _ (p .before .before .if1 .left)
 
+-- the number of the parts is known
+module _ (p : tie.After-parts-fault) where
+  abbrev fresh-name : tie.Else2
+  fresh-name = p .before .before .before
+
+  abbrev taken-known : tie.After-is-taken
+  taken-known = fresh-name .before
+
+  abbrev from : tie.Start
+  from = start (named taken-known)
+
 pub rule-line-spec : {M : Type 1} → statement M
 rule-line-spec =
     tie.close
@@ -148,19 +175,21 @@ rule-line-spec =
     (λ c. let p = c .before in omega (arith, valued (named p) .short (good p)))
     (λ c κs. search needs)
     (λ c κs. search needs)
+    (λ c κs. search needs)
     (λ c.
-    let e = c .before .before .before in
-    let p = e .before in
+    let f = c .before in
+    let p = taken-known f in
     let n = named p in
-    at-fault _ _ _ (valued n) (good p) (p .before .front .ensures .0) (p .is-taken .ensures) (e .if2 .left) (c .before .before .rest2 .ensures .0) (c .before .fault-in .ensures) (c .if3 .taken)
+    at-fault _ _ _ (valued n) (good p) (p .before .front .ensures .0) (p .is-taken .ensures) (fresh-name f .if2 .left) (f .before .before .rest2 .ensures .0) (f .before .prefix-of2 .ensures) (f .parts-fault .ensures) (c .if3 .taken)
     ∙ ap (ruleLine _ _ _) (s-is n))
-    (λ c. let p = c .before .before .before .before in omega (arith, within (named p), start (named p) .good .0))
-    (λ c. let p = c .before .before .before .before in omega (arith, valued (named p) .short (good p)))
-    (λ c. let p = c .before .before .before .before in omega (arith, valued (named p) .short (good p), within (named p), start (named p) .good .0))
-    (λ c. let p = c .before .before .before .before in omega (arith, within (named p), start (named p) .good .0))
+    (λ c. let p = taken-known (c .before) in omega (arith, within (named p), from (c .before) .good .0))
+    (λ c. let p = taken-known (c .before) in omega (arith, valued (named p) .short (good p)))
+    (λ c. let p = taken-known (c .before) in omega (arith, valued (named p) .short (good p), within (named p), from (c .before) .good .0))
+    (λ c κs. let f = c .before in short-step _ _ (f .before .prefix-of2 .ensures) (f .parts-fault .ensures) (c .if3 .left))
+    (λ c. let p = taken-known (c .before .before) in omega (arith, within (named p), from (c .before .before) .good .0))
     (λ c.
-    let e = c .before .before .before in
-    let p = e .before in
+    let f = c .before .before in
+    let p = taken-known f in
     let n = named p in
-    read _ _ _ (valued n) (good p) (p .before .front .ensures .0) (p .is-taken .ensures) (e .if2 .left) (c .before .before .rest2 .ensures .0) (c .before .fault-in .ensures) (c .if3 .left)
+    read _ _ _ (valued n) (good p) (p .before .front .ensures .0) (p .is-taken .ensures) (fresh-name f .if2 .left) (f .before .before .rest2 .ensures .0) (f .before .prefix-of2 .ensures) (f .parts-fault .ensures) (c .before .if3 .left) (c .start-from .ensures)
     ∙ ap (ruleLine _ _ _) (s-is n)))

@@ -3,6 +3,7 @@
 use Prim.Native.Nat.{_<_}
 use mathlib.Core.Path.{_≡_, sym, _∙_}
 use mathlib.Core.Bool.{false}
+use native.Mathlib.Omega.{arith}
 use borrow.Author.Needs.{needs}
 use borrow.Author.Tests.{not-true}
 use Rattle.verdicts.specs.Marks.{anyWith}
@@ -58,7 +59,7 @@ is-held-spec =
     (λ c κs.
     let l = turn (c .before) in record {
       few = start l .pre .few;
-      room = start l .pre .room;
+      room = omega (arith, start l .pre .room);
       state = left (c .before);
       marked = l .loop .inv .spread .size;
     })
