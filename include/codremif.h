@@ -5,7 +5,7 @@
  * repeats what a host needs. It is C99, and C++98 or later.
  *
  * A model is a text: named Boolean rules over one second and the next, which may also speak about
- * power-up, and one to four properties. Eight calls read it:
+ * power-up, and one to four properties. Ten calls read it:
  *
  *   codremif_judge    does a set of rules keep every property in every state that can be
  *                     reached? If not: a shortest run to a bad state
@@ -19,6 +19,8 @@
  *   codremif_irr      the irrelevant rules: those that no core has
  *   codremif_one_core one core, by the caller's order of preference, and how many sets were judged
  *                     to find it
+ *   codremif_blame    which rules are broken in a log of states, a byte for each second?
+ *   codremif_breach   at which place of the log is the first state that breaks a property?
  *
  * Two calls read no text. They look a set up in a list of cores and a list of cuts, for a screen
  * that has both lists already and asks at each click:
@@ -63,6 +65,18 @@
  *         ... codremif_set(answer) is the core that is found, and may be set 0 ...
  *     else
  *         ... there is no core: the full set is broken ...
+ *
+ *   With a station's log of `log_len` states, one byte for each second:
+ *
+ *     uint64_t answer = codremif_blame(text, length, log, log_len);
+ *     uint64_t place = codremif_breach(text, length, log, log_len);
+ *     if (!codremif_accepted(answer))
+ *         ... as above, and place is CODREMIF_NO_PLACE ...
+ *     ... codremif_set(answer) has the rules that are broken anywhere in the log ...
+ *     if (codremif_no_breach(answer))
+ *         ... no state of the log breaks a property, and place is log_len ...
+ *     else
+ *         ... log[place] is the first that does, and the broken rules contain a cut ...
  *
  *   With the list of its cores, of `cores_len` bytes, the list of its cuts, of `cuts_len`, and a
  *   chosen set:
@@ -116,6 +130,8 @@
  *   Marks are one byte for each state by number, 2^N bytes: 1 if it is reached, 0 if it is not.
  *   The place of a rule is a number from 0 to R - 1: the first rule in the text has place 0.
  *   An order is R bytes that have each place exactly once.
+ *   A log is one byte for each state, as many as there are. The place of a state in it is a number
+ *   from 0: the first state has place 0.
  *
  * Start states. The start states of a set are those that meet `init` and the start part of each
  *   rule in the set; those of set 0 are all that meet `init`. A set with more rules has the same
@@ -145,6 +161,19 @@
  *   the order is. Each core is left by some order: by each that has the rules outside the core
  *   before those in it.
  *
+ * Blame. A log is what a station has recorded, a state for each second: one state or more, each
+ *   less than 2^N, of which the first meets `init`. The rules need not have been kept in it.
+ *   codremif_blame gives those that are broken anywhere in it: a rule whose start part fails in
+ *   the first state, or whose step part fails between a state and the next one, be it before the
+ *   first bad state or after it. codremif_breach gives the place of the first bad state, or the
+ *   log's length if no state is bad.
+ *   Where there is a bad state, the log up to the first one is a run of the set of all the rules
+ *   that are not broken. So codremif_judge says of that set that it is broken, and its trace is
+ *   not longer than this run. So the broken rules share a rule with every core, and contain a cut.
+ *   Where no rule is broken and yet a state is bad, the full set is broken: there is no core, and
+ *   the cut is set 0. Where no state is bad, there may be broken rules all the same, and they need
+ *   not contain a cut.
+ *
  * Looking a set up. A listed core is inside a set if each of its rules is in the set. A listed cut
  *   is apart from a set if none of its rules is in the set. The core list is searched first, for
  *   the first listed core that is inside. Only where there is none, the cut list is searched, for
@@ -170,35 +199,35 @@
  *   cases MUST and MAY are 0, and every rule is irrelevant: these three do not say which it is.
  *   codremif_one_core gives set 0 in both, and codremif_holds of its answer tells them apart.
  *
- * Who owns what. The caller owns all memory. The text is only read, and so are the order (`order`)
- *   and the two lists in which a set is looked up (`cores`, `cuts`). Lent bytes (`trace`, `marks`,
- *   `sets`) are written from their start, and bytes past the trace, the marks or the list keep
- *   their content; what they held before makes no difference to an answer. No pointer is kept
- *   after the call. A witness is two bytes of the caller's own list and no copy. The calls need no
- *   alignment.
+ * Who owns what. The caller owns all memory. The text is only read, and so are the order
+ *   (`order`), the log (`log`) and the two lists in which a set is looked up (`cores`, `cuts`).
+ *   Lent bytes (`trace`, `marks`, `sets`) are written from their start, and bytes past the trace,
+ *   the marks or the list keep their content; what they held before makes no difference to an
+ *   answer. No pointer is kept after the call. A witness is two bytes of the caller's own list and
+ *   no copy. The calls need no alignment.
  *
  * What the host answers for. Each pointer leads to as many bytes as the length beside it says,
- *   and lent bytes overlap nothing else that is handed over. The text, the order and the two lists
- *   in which a set is looked up are not lent: they may overlap, and may be the same memory. While
- *   a call runs nothing else writes these, and nothing else reads or writes the lent bytes.
- *   Nothing can check these, and if they fail nothing is promised. With a length of 0 the pointer
- *   is not used and may be NULL. Everything else may be handed over: any bytes, any length, any
- *   set number. Every call ends, with an answer or refused.
+ *   and lent bytes overlap nothing else that is handed over. The text, the order, the log and the
+ *   two lists in which a set is looked up are not lent: they may overlap, and may be the same
+ *   memory. While a call runs nothing else writes these, and nothing else reads or writes the lent
+ *   bytes. Nothing can check these, and if they fail nothing is promised. With a length of 0 the
+ *   pointer is not used and may be NULL. Everything else may be handed over: any bytes, any
+ *   length, any set number. Every call ends, with an answer or refused.
  *
  * A refused call. Its answer has the number and the line of the first ground that fits (enum
  *   codremif_refusal), and every other part of it is 0: the verdict then reads broken, the
- *   length, count, set, pairs or judgements read 0, and a set that is looked up reads unlisted. So
- *   ask codremif_accepted first. No lent byte has changed.
+ *   length, count, set, pairs or judgements read 0, a set that is looked up reads unlisted, and a
+ *   log reads as if it had a bad state. So ask codremif_accepted first. No lent byte has changed.
  *
  * How much to lend. A call does not tell how many bytes it would have needed. Lend
  *   CODREMIF_TRACE_BYTES, CODREMIF_MARK_BYTES or CODREMIF_LIST_BYTES: these are enough for every
  *   model, and such a call is never refused by 11.
  *
  * Threads and signals. The library has no global state and nothing in it is written: any number
- *   of threads may call it at once, on the same text, order or lists too, with lent bytes of their
- *   own. It installs no signal handler and raises no signal. For the same reason a signal handler
- *   may call it, also where the signal came in the middle of a call, if the handler's stack has
- *   the room (below) and the lent bytes are its own.
+ *   of threads may call it at once, on the same text, order, log or lists too, with lent bytes of
+ *   their own. It installs no signal handler and raises no signal. For the same reason a signal
+ *   handler may call it, also where the signal came in the middle of a call, if the handler's
+ *   stack has the room (below) and the lent bytes are its own.
  *
  * Heap and system. No malloc, no file, no system call, no lock, no errno. The archive needs
  *   memcpy and memset and nothing else. Its code uses SSE2, which every x86-64 processor has, and
@@ -208,12 +237,13 @@
  *
  * Time. Judging a set, marking the states that it reaches, giving MUST and finding one core take a
  *   millisecond or two at the most, on one processor of a machine of today; so do the lists of
- *   nearly every model. One core takes at most a tenth longer than MUST. The time of a list grows
- *   with the cores and cuts: where a model has thousands of both it takes some ten milliseconds
- *   (40 is the most that was seen, on models/pages/eight_pages.txt). MAY and the irrelevant rules
- *   take as long as a list. Looking a set up takes at most 2 nanoseconds for each listed set that
- *   is passed over, and a few beside: 52 microseconds for two lists of CODREMIF_LIST_SETS. This is
- *   measured, not proved. That a call ends is proved.
+ *   nearly every model. One core takes at most a tenth longer than MUST, and so do the two calls
+ *   on a log, if it has 60 states; each state more takes at most 3 nanoseconds. The time of a list
+ *   grows with the cores and cuts: where a model has thousands of both it takes some ten
+ *   milliseconds (40 is the most that was seen, on models/pages/eight_pages.txt). MAY and the
+ *   irrelevant rules take as long as a list. Looking a set up takes at most 2 nanoseconds for each
+ *   listed set that is passed over, and a few beside: 52 microseconds for two lists of
+ *   CODREMIF_LIST_SETS. This is measured, not proved. That a call ends is proved.
  *
  * Stack. A call takes all its memory from the caller's stack: CODREMIF_STACK_BYTES at most, below
  *   the frame of the caller, what memcpy and memset take included. hosts/c measures it, and adds
@@ -249,8 +279,8 @@ extern "C" {
 #endif
 
 /* The version that this header belongs to: major * 1,000,000 + minor * 1,000 + patch. */
-#define CODREMIF_VERSION 1006000
-#define CODREMIF_VERSION_STRING "1.6.0"
+#define CODREMIF_VERSION 1007000
+#define CODREMIF_VERSION_STRING "1.7.0"
 
 /* An accepted text has at most so many bytes: two counts, `init`, four properties and 16 rules
  * with start parts, all at their longest. */
@@ -281,6 +311,9 @@ extern "C" {
 /* What codremif_witness gives where there is no witness; no list has such a byte place. */
 #define CODREMIF_NO_WITNESS ((uint64_t)-1)
 
+/* What codremif_breach gives where it is refused; no log has such a place or such a length. */
+#define CODREMIF_NO_PLACE ((uint64_t)-1)
+
 /* The stack that a call needs: each, and the most of them. hosts/c/stack.c measures it and
  * hosts/c/frames adds it up; both fail where these say too little. */
 #define CODREMIF_JUDGE_STACK_BYTES 65536
@@ -291,6 +324,8 @@ extern "C" {
 #define CODREMIF_MAY_STACK_BYTES 131072
 #define CODREMIF_IRR_STACK_BYTES 131072
 #define CODREMIF_ONE_CORE_STACK_BYTES 65536
+#define CODREMIF_BLAME_STACK_BYTES 65536
+#define CODREMIF_BREACH_STACK_BYTES 65536
 #define CODREMIF_SUFFICES_STACK_BYTES 1024
 #define CODREMIF_WITNESS_STACK_BYTES 1024
 #define CODREMIF_STACK_BYTES 131072
@@ -298,9 +333,10 @@ extern "C" {
 /*
  * Why a call is refused; docs/FORMAT.md has an example of each. Numbers 1 to 8 are tried line by
  * line, in this order within a line, and 5 to 8 again on the start part of a rule if its step part
- * has passed; after the whole text come 9, 10 and 11, and where an order is handed over 13 after 9.
- * The two calls that read no text try 12 and nothing else. The first line is 1; a number that
- * concerns no line gives line 0. codremif_words has the same words.
+ * has passed; after the whole text come 9, 10 and 11, where an order is handed over 13 after 9, and
+ * where a log is handed over 14 and then 15 after 9. The two calls that read no text try 12 and
+ * nothing else. The first line is 1; a number that concerns no line gives line 0. codremif_words
+ * has the same words.
  */
 enum codremif_refusal {
     /* Where no number fits, the call is accepted. */
@@ -331,7 +367,11 @@ enum codremif_refusal {
     /* A list has an odd count of bytes (line 0). */
     CODREMIF_ODD_LIST = 12,
     /* The order is not R bytes that have each place from 0 to R - 1 exactly once (line 0). */
-    CODREMIF_NOT_AN_ORDER = 13
+    CODREMIF_NOT_AN_ORDER = 13,
+    /* The log is empty or has a state of 2^N or more (line 0). */
+    CODREMIF_NOT_A_LOG = 14,
+    /* The log's first state does not meet `init` (line 0). */
+    CODREMIF_INIT_UNMET = 15
 };
 
 /* What codremif_suffices says of a set. */
@@ -355,8 +395,9 @@ enum codremif_lookup {
 /*
  * The calls. Each answer is one 64-bit number: the number of the refusal (0: accepted), plus 256
  * times the line, plus 65,536 times the length, count, set, pairs or what is said of a set, plus
- * 2^40 for a verdict that holds or a core inside, plus 2^41 times the judgements. Take it apart
- * with the functions below.
+ * 2^40 for a verdict that holds, a core inside or a log without a bad state, plus 2^41 times the
+ * judgements. Take it apart with the functions below. Three calls give no such answer but a number
+ * as it is: codremif_breach, codremif_witness and codremif_version.
  */
 
 /*
@@ -422,6 +463,25 @@ uint64_t codremif_irr(const uint8_t *text, size_t text_len);
 CODREMIF_LOOK_AT_IT
 uint64_t codremif_one_core(const uint8_t *text, size_t text_len, const uint8_t *order,
                            size_t order_len);
+
+/*
+ * Gives the rules that are broken anywhere in a log, which is states as bytes, one for each second.
+ * Accepted: codremif_set, the broken rules; and codremif_no_breach, whether no state of the log
+ * breaks a property. Where one does, the broken rules share a rule with every core and contain a
+ * cut.
+ * Refused by 1 to 9 (the text), 14 (the log: it has no byte, or a byte of 2^N or more anywhere in
+ * it), 15 (its first byte). It lends nothing. A log may have any length.
+ */
+CODREMIF_LOOK_AT_IT
+uint64_t codremif_blame(const uint8_t *text, size_t text_len, const uint8_t *log, size_t log_len);
+
+/*
+ * Given the same as codremif_blame, gives the place of the first state that breaks a property,
+ * counted from 0: it is `log[place]`. `log_len` where no state does. CODREMIF_NO_PLACE where
+ * codremif_blame is refused. It is no answer to be taken apart.
+ */
+CODREMIF_LOOK_AT_IT
+uint64_t codremif_breach(const uint8_t *text, size_t text_len, const uint8_t *log, size_t log_len);
 
 /*
  * Looks a set up in two lists, two bytes for each set as codremif_cores and codremif_cuts write
@@ -498,7 +558,8 @@ static inline size_t codremif_count(uint64_t answer)
 }
 
 /* Of codremif_must, codremif_may and codremif_irr: the set. Of codremif_one_core: the core that is
- * found; 0 too where codremif_holds says that there is none. */
+ * found; 0 too where codremif_holds says that there is none. Of codremif_blame: the rules that are
+ * broken anywhere in the log. */
 static inline uint32_t codremif_set(uint64_t answer)
 {
     return (answer >> 16) & 0xFFFFFF;
@@ -508,6 +569,13 @@ static inline uint32_t codremif_set(uint64_t answer)
 static inline size_t codremif_judgements(uint64_t answer)
 {
     return answer >> 41;
+}
+
+/* Of codremif_blame: 1 if no state of the log breaks a property; 0 if one does, and if the call is
+ * refused. */
+static inline int codremif_no_breach(uint64_t answer)
+{
+    return (answer >> 40) & 1;
 }
 
 /* Of codremif_suffices: what it says of the set, one of enum codremif_lookup. */
@@ -561,6 +629,8 @@ static inline const char *codremif_words(unsigned number)
     case CODREMIF_ODD_LIST: return "A list has an odd count of bytes (line 0).";
     case CODREMIF_NOT_AN_ORDER: return "The order is not R bytes that have each place from 0 to "
         "R - 1 exactly once (line 0).";
+    case CODREMIF_NOT_A_LOG: return "The log is empty or has a state of 2^N or more (line 0).";
+    case CODREMIF_INIT_UNMET: return "The log's first state does not meet `init` (line 0).";
     default: return "";
     }
 }

@@ -1,7 +1,7 @@
 /*
- * Tests of the calls as a C host makes them; orders.c has those of the call that is given an order, lookups.c those of the two that read no text.
- * What is expected is written by hand from docs/FORMAT.md. Each text stands in a block of its own length, and each lent slice between guards, so that
- * valgrind, and without it the guards, see a byte too many.
+ * Tests of the calls as a C host makes them; orders.c has those of the call that is given an order, logs.c those of the two that are given a log,
+ * lookups.c those of the two that read no text. What is expected is written by hand from docs/FORMAT.md. Each text stands in a block of its own length,
+ * and each lent slice between guards, so that valgrind, and without it the guards, see a byte too many.
  */
 #define _XOPEN_SOURCE 700
 #include <pthread.h>
@@ -139,14 +139,14 @@ static void test_refusals(void)
     const enum codremif_refusal in_order[] = {
         CODREMIF_ACCEPTED, CODREMIF_LINE_DUE, CODREMIF_COUNT, CODREMIF_NAME, CODREMIF_NAME_TWICE, CODREMIF_EXPRESSION_LENGTH,
         CODREMIF_BYTE, CODREMIF_LETTER, CODREMIF_NOT_ONE, CODREMIF_BYTES_FOLLOW, CODREMIF_NO_SUCH_SET, CODREMIF_TOO_FEW_BYTES,
-        CODREMIF_ODD_LIST, CODREMIF_NOT_AN_ORDER,
+        CODREMIF_ODD_LIST, CODREMIF_NOT_AN_ORDER, CODREMIF_NOT_A_LOG, CODREMIF_INIT_UNMET,
     };
-    int numbers = sizeof in_order / sizeof in_order[0] == 14, words = codremif_words(14)[0] == '\0';
-    for (unsigned number = 0; number <= 13; number++) {
+    int numbers = sizeof in_order / sizeof in_order[0] == 16, words = codremif_words(16)[0] == '\0';
+    for (unsigned number = 0; number <= 15; number++) {
         numbers = numbers && in_order[number] == number;
         words = words && codremif_words(number)[0] != '\0';
     }
-    check(numbers, "the refusals have the numbers 0 to 13");
+    check(numbers, "the refusals have the numbers 0 to 15");
     check(words, "each of them has words, and no other number has");
 }
 
@@ -454,11 +454,15 @@ static const struct refused refused_texts[] = {
 /* Whether every call refuses the text by this number and line, with nothing beside them, and leaves each lent byte as it was. */
 static int refused_by_all(struct text text, uint64_t answer)
 {
-    const uint8_t order[] = {0, 1, 2, 2};
+    const uint8_t order[] = {0, 1, 2, 2}, log[] = {1, 0, 255};
     int good = codremif_must(text.bytes, text.length) == answer && codremif_may(text.bytes, text.length) == answer &&
                codremif_irr(text.bytes, text.length) == answer;
     for (size_t order_len = 0; order_len <= sizeof order; order_len++)
         good = codremif_one_core(text.bytes, text.length, order, order_len) == answer && good;
+    for (size_t log_len = 0; log_len <= sizeof log; log_len++) {
+        good = codremif_blame(text.bytes, text.length, log, log_len) == answer && good;
+        good = codremif_breach(text.bytes, text.length, log, log_len) == CODREMIF_NO_PLACE && good;
+    }
     for (size_t lent_bytes = 0; lent_bytes <= 128; lent_bytes += 128) {
         good = judged(text, 0, lent_bytes, answer, NULL, 0) && good;
         good = judged(text, 0xFFFFFFFF, lent_bytes, answer, NULL, 0) && good;
@@ -498,7 +502,8 @@ static void test_null(void)
               codremif_cores(NULL, 0, lent, 4) == 257 && codremif_cores(NULL, 0, NULL, 0) == 257 &&
               codremif_cuts(NULL, 0, lent, 4) == 257 && codremif_cuts(NULL, 0, NULL, 0) == 257 && codremif_must(NULL, 0) == 257 &&
               codremif_may(NULL, 0) == 257 && codremif_irr(NULL, 0) == 257 && codremif_one_core(NULL, 0, lent, 4) == 257 &&
-              codremif_one_core(NULL, 0, NULL, 0) == 257,
+              codremif_one_core(NULL, 0, NULL, 0) == 257 && codremif_blame(NULL, 0, lent, 4) == 257 && codremif_blame(NULL, 0, NULL, 0) == 257 &&
+              codremif_breach(NULL, 0, lent, 4) == CODREMIF_NO_PLACE && codremif_breach(NULL, 0, NULL, 0) == CODREMIF_NO_PLACE,
           "no text at NULL: number 1, line 1");
     check(memcmp(lent, (const uint8_t[]){1, 2, 3, 4}, 4) == 0, "no text at NULL: the lent bytes keep their content");
     check(codremif_judge(text, length, 0, NULL, 0) == 11 && codremif_judge(text, length, 7, NULL, 0) == TWO_40,
@@ -510,6 +515,8 @@ static void test_null(void)
               codremif_cuts(still, still_length, NULL, 0) == 0,
           "no byte lent at NULL: a list of some sets is refused by 11, one of none is given");
     check(codremif_one_core(text, length, NULL, 0) == 13 && codremif_one_core(still, still_length, NULL, 0) == 13, "no order at NULL: refused by 13");
+    check(codremif_blame(text, length, NULL, 0) == 14 && codremif_breach(still, still_length, NULL, 0) == CODREMIF_NO_PLACE,
+          "no log at NULL: refused by 14");
 }
 
 /* The lent bytes hold nothing that was ever written: valgrind tells if an answer depends on them. */
@@ -585,13 +592,14 @@ static void test_bases(void)
 }
 
 struct answers {
-    uint64_t judge, reached, cores, cuts, must, may, irr, one_core, suffices, witness;
+    uint64_t judge, reached, cores, cuts, must, may, irr, one_core, blame, breach, suffices, witness;
     uint8_t trace[CODREMIF_TRACE_BYTES], marks[CODREMIF_MARK_BYTES], core_sets[CODREMIF_LIST_BYTES], cut_sets[CODREMIF_LIST_BYTES];
 };
 
 static void ask_all(const struct model *model, struct answers *answers)
 {
     static const uint8_t order[CODREMIF_RULES] = {0, 1, 2, 3, 4, 5, 6, 7, 8, 9, 10, 11, 12, 13, 14, 15};
+    static const uint8_t log[] = {0, 1, 2, 3, 1, 0};
     const uint8_t *text = (const uint8_t *)model->text;
     memset(answers, 0, sizeof *answers);
     answers->judge = codremif_judge(text, model->length, 2, answers->trace, sizeof answers->trace);
@@ -602,6 +610,8 @@ static void ask_all(const struct model *model, struct answers *answers)
     answers->may = codremif_may(text, model->length);
     answers->irr = codremif_irr(text, model->length);
     answers->one_core = codremif_one_core(text, model->length, order, codremif_rules(text, model->length));
+    answers->blame = codremif_blame(text, model->length, log, sizeof log);
+    answers->breach = codremif_breach(text, model->length, log, sizeof log);
     size_t cores_len = 2 * codremif_count(answers->cores), cuts_len = 2 * codremif_count(answers->cuts);
     answers->suffices = codremif_suffices(2, answers->core_sets, cores_len, answers->cut_sets, cuts_len);
     answers->witness = codremif_witness(2, answers->core_sets, cores_len, answers->cut_sets, cuts_len);

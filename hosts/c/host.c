@@ -1,5 +1,5 @@
 /*
- * A small C host: host MODEL-FILE [SET]
+ * A small C host: host MODEL-FILE [SET], or host --blame MODEL-FILE LOG-FILE
  *
  * Reads a model file, judges the set of rules (the full set if none is given) and prints the verdict, the trace if it is broken, how many states the
  * set reaches and which, how many pairs of states were tried for them, MUST, MAY, the irrelevant rules, one core, the cores and the cuts, each set as
@@ -7,6 +7,11 @@
  * dearer than the others, so that it is inside the set where the set holds. Last, the host looks the set up in the two lists, as a screen does that
  * has them already: `inside=` is the first core inside the set, `apart=` the first cut apart from it. Exit status and messages are those of ./report:
  * 0 answered; 1 refused, with one line on standard error; 2 wrong use, or something could not be read or written.
+ *
+ * With --blame it reads a model file and the log of a station: a state on each line, in base ten. It prints `blamed=` with the names of the rules that
+ * are broken anywhere in the log, and `breach=` with the place of the first state that breaks a property; the first state has place 0. Where no state
+ * does, that is the log's length, and one line on standard error says so. A refused text or log prints `refused=` and `line=`, as ./report does. The
+ * exit status is as above; a line of the log that is not a number is something that could not be read.
  */
 #include <errno.h>
 #include <stdio.h>
@@ -18,7 +23,9 @@
 /* As many bytes as the report reads; no legal model has more than CODREMIF_TEXT_BYTES. */
 #define READ_BYTES 4096
 
-#define USAGE "usage: host MODEL-FILE [SET]\n"
+#define USAGE                        \
+    "usage: host MODEL-FILE [SET]\n" \
+    "       host --blame MODEL-FILE LOG-FILE\n"
 
 enum status { ANSWERED = 0, REFUSED = 1, FAILED = 2 };
 
@@ -46,10 +53,9 @@ static int read_text(const char *path, struct text *text)
     return good;
 }
 
-/* A set as its number and its names in the model's order, with commas; the empty set is `-`. */
-static void print_set(const char *key, const struct text *text, uint32_t set)
+/* The names of a set in the model's order, with commas; the empty set is `-`. */
+static void print_names(const struct text *text, uint32_t set)
 {
-    printf("%s=%lu ", key, (unsigned long)set);
     if (set == 0)
         printf("-");
     const char *comma = "";
@@ -62,6 +68,13 @@ static void print_set(const char *key, const struct text *text, uint32_t set)
         }
     }
     printf("\n");
+}
+
+/* A set as its number and its names. */
+static void print_set(const char *key, const struct text *text, uint32_t set)
+{
+    printf("%s=%lu ", key, (unsigned long)set);
+    print_names(text, set);
 }
 
 /* Whether the call was accepted; if not, says why not. */
@@ -198,16 +211,114 @@ static enum status written(enum status status)
     return FAILED;
 }
 
+/* The states of a log, in memory that grows with them. */
+struct log {
+    uint8_t *states;
+    size_t length, room;
+};
+
+/* Whether there was memory for one more. */
+static int add_state(struct log *log, uint8_t state)
+{
+    if (log->length == log->room) {
+        size_t room = log->room == 0 ? READ_BYTES : 2 * log->room;
+        uint8_t *states = realloc(log->states, room);
+        if (states == NULL)
+            return 0;
+        log->states = states;
+        log->room = room;
+    }
+    log->states[log->length++] = state;
+    return 1;
+}
+
+/* What comes next in a file of numbers, one on each line. */
+enum next { NUMBER, NO_NUMBER, END };
+
+/* A line is digits and byte 10; the last may end with the file. 255 stands for every larger number as well: no model has a state like that. */
+static enum next read_state(FILE *file, uint8_t *state)
+{
+    unsigned value = 0;
+    int digits = 0, byte = getc(file);
+    if (byte == EOF)
+        return END;
+    for (; byte >= '0' && byte <= '9'; byte = getc(file)) {
+        digits = 1;
+        value = 10 * value + (unsigned)(byte - '0');
+        value = value < UINT8_MAX ? value : UINT8_MAX;
+    }
+    *state = (uint8_t)value;
+    return digits && (byte == '\n' || byte == EOF) ? NUMBER : NO_NUMBER;
+}
+
+/* Whether the log could be read; if not, says why not. */
+static int read_log(const char *path, struct log *log)
+{
+    FILE *file = fopen(path, "rb");
+    enum next next = END;
+    uint8_t state = 0;
+    int room = 1, good = file != NULL;
+    while (good && room && (next = read_state(file, &state)) == NUMBER)
+        room = add_state(log, state);
+    if (file != NULL) {
+        good = !ferror(file);
+        fclose(file);
+    }
+    if (!good)
+        fprintf(stderr, "host: %s cannot be read\n", path);
+    else if (next == NO_NUMBER)
+        fprintf(stderr, "host: line %lu of %s is not a number\n", (unsigned long)log->length + 1, path);
+    else if (!room)
+        fprintf(stderr, "host: there is no memory for %s\n", path);
+    return good && room && next == END;
+}
+
+/* What stands on standard error is said once the lines have got out. */
+static enum status show_blame(const struct text *text, const struct log *log)
+{
+    uint64_t answer = codremif_blame(text->bytes, text->length, log->states, log->length);
+    uint64_t place = codremif_breach(text->bytes, text->length, log->states, log->length);
+    enum status status = codremif_accepted(answer) ? ANSWERED : REFUSED;
+    if (status == REFUSED) {
+        printf("refused=%u\nline=%u\n", codremif_number(answer), codremif_line(answer));
+    } else {
+        printf("blamed=");
+        print_names(text, codremif_set(answer));
+        printf("breach=%llu\n", (unsigned long long)place);
+    }
+    if (written(status) == FAILED)
+        return FAILED;
+    if (accepted(answer) && codremif_no_breach(answer))
+        fprintf(stderr, "host: no state of the log breaks a property\n");
+    return status;
+}
+
+static enum status blame(const char *model_path, const char *log_path)
+{
+    struct text text;
+    struct log log = {NULL, 0, 0};
+    enum status status = FAILED;
+    if (!read_text(model_path, &text))
+        fprintf(stderr, "host: %s cannot be read\n", model_path);
+    else if (read_log(log_path, &log))
+        status = show_blame(&text, &log);
+    free(log.states);
+    return status;
+}
+
 int main(int argc, char **argv)
 {
     static struct list cores, cuts;
     struct text text;
     uint32_t set = 0;
+    int for_blame = argc > 1 && strcmp(argv[1], "--blame") == 0;
     if (argc == 2 && strcmp(argv[1], "--help") == 0) {
         printf(USAGE);
         return written(ANSWERED);
     }
-    if (argc != 2 && argc != 3) {
+    if (for_blame && argc == 4)
+        return blame(argv[2], argv[3]);
+    if (for_blame || (argc != 2 && argc != 3)) {
         fprintf(stderr, USAGE);
         return FAILED;
     }

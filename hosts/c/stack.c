@@ -18,11 +18,12 @@
 #define PAGE_BYTES 4096
 #define PAINT 0xA5
 #define ROUND_BYTES 65536
+#define LOG_BYTES 5000
 
 /* What a call without an array may be stated to need: so little is not rounded up as the others are. */
 #define SMALL_BYTES 1024
 
-enum call { JUDGE, REACHED, CORES, CUTS, MUST, MAY, IRR, ONE_CORE, SUFFICES, WITNESS, CALLS };
+enum call { JUDGE, REACHED, CORES, CUTS, MUST, MAY, IRR, ONE_CORE, BLAME, BREACH, SUFFICES, WITNESS, CALLS };
 
 static const struct {
     const char *name;
@@ -36,6 +37,8 @@ static const struct {
     {"codremif_may", CODREMIF_MAY_STACK_BYTES},
     {"codremif_irr", CODREMIF_IRR_STACK_BYTES},
     {"codremif_one_core", CODREMIF_ONE_CORE_STACK_BYTES},
+    {"codremif_blame", CODREMIF_BLAME_STACK_BYTES},
+    {"codremif_breach", CODREMIF_BREACH_STACK_BYTES},
     {"codremif_suffices", CODREMIF_SUFFICES_STACK_BYTES},
     {"codremif_witness", CODREMIF_WITNESS_STACK_BYTES},
 };
@@ -45,6 +48,9 @@ static uint8_t lent[CODREMIF_LIST_BYTES];
 
 /* So many of these bytes are an order of so many rules; `lent_length` says how many are handed over. */
 static const uint8_t order[CODREMIF_RULES + 1] = {0, 1, 2, 3, 4, 5, 6, 7, 8, 9, 10, 11, 12, 13, 14, 15, 16};
+
+/* A log, but for the byte at its end, which is no state; `lent_length` says how many bytes are handed over. */
+static uint8_t log_states[LOG_BYTES];
 
 static size_t most[CALLS];
 static size_t widest_gap;
@@ -76,6 +82,8 @@ static uint64_t ask(const struct run *run)
     case MAY: return codremif_may(text, length);
     case IRR: return codremif_irr(text, length);
     case ONE_CORE: return codremif_one_core(text, length, order, run->lent_length);
+    case BLAME: return codremif_blame(text, length, log_states, run->lent_length);
+    case BREACH: return codremif_breach(text, length, log_states, run->lent_length);
     case SUFFICES: return codremif_suffices(run->set, run->lent, run->lent_length, run->lent, run->lent_length);
     default: return codremif_witness(run->set, run->lent, run->lent_length, run->lent, run->lent_length);
     }
@@ -127,9 +135,32 @@ static uint64_t measure(const struct model *model, enum call call, uint32_t set,
     return run.answer;
 }
 
+/* A log for the model: the first state that meets `init`, and in turn with it the one that differs from it in `a` alone. */
+static void make_log(const struct model *model)
+{
+    uint8_t first = 0;
+    while (codremif_number(codremif_blame((const uint8_t *)model->text, model->length, &first, 1)) == CODREMIF_INIT_UNMET)
+        first++;
+    for (size_t i = 0; i + 1 < LOG_BYTES; i++)
+        log_states[i] = first ^ (i & 1);
+    log_states[LOG_BYTES - 1] = 255;
+}
+
+/* Both calls that are given a log: one state, many, and a byte that is none behind them. */
+static void measure_logs(const struct model *model, unsigned number)
+{
+    const size_t lengths[] = {1, LOG_BYTES - 1, LOG_BYTES};
+    make_log(model);
+    for (size_t i = 0; i < sizeof lengths / sizeof lengths[0]; i++) {
+        unsigned meant = number == CODREMIF_ACCEPTED && lengths[i] == LOG_BYTES ? CODREMIF_NOT_A_LOG : number;
+        as_meant = codremif_number(measure(model, BLAME, 0, lengths[i])) == meant && as_meant;
+        as_meant = (measure(model, BREACH, 0, lengths[i]) == CODREMIF_NO_PLACE) == (meant != CODREMIF_ACCEPTED) && as_meant;
+    }
+}
+
 /*
  * Every call on a model: sets that hold and sets that are broken, and one that no model has; enough lent bytes, and too few; an order, and a byte too
- * many. The model is meant to be refused by the number, so that a slip in a text does not pass for a large model.
+ * many; a log, and a byte that is no state. The model is meant to be refused by the number, so that a slip in a text does not pass for a large model.
  */
 static void measure_all(const struct model *model, unsigned number)
 {
@@ -149,6 +180,7 @@ static void measure_all(const struct model *model, unsigned number)
     size_t rules = codremif_rules((const uint8_t *)model->text, model->length);
     as_meant = codremif_number(measure(model, ONE_CORE, 0, rules)) == number && as_meant;
     as_meant = codremif_number(measure(model, ONE_CORE, 0, rules + 1)) == (number == CODREMIF_ACCEPTED ? CODREMIF_NOT_AN_ORDER : number) && as_meant;
+    measure_logs(model, number);
 }
 
 #define TIMES_4(x) x x x x
@@ -251,6 +283,6 @@ int main(void)
     }
     check(all == CODREMIF_STACK_BYTES, "CODREMIF_STACK_BYTES is the most of them");
     check(widest_gap < PAGE_BYTES, "no page of the stack is passed over");
-    check(as_meant, "each model, each order and each list is accepted or refused as it is meant to be");
+    check(as_meant, "each model, each order, each log and each list is accepted or refused as it is meant to be");
     return exit_status();
 }

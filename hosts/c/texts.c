@@ -3,9 +3,10 @@
  * with one to four properties, and with start parts and without, are written here, so what is expected is known, and the library is asked whether it
  * sees as many rules, whether MUST, MAY and the irrelevant rules make up the full set, whether what is said of a set that is looked up in the two
  * lists agrees with judging it, whether what it says of a set jointly follows from what it says by each property, whether a set reaches the states of
- * its trace and no state that it does not reach with fewer rules, whether the start parts of rules outside a set make no difference to it, and whether
- * each order finds a listed core and each listed core is found by an order. Each text stands in a block of its own length, so that valgrind sees a byte
- * too many; cut-off and damaged texts must do no harm.
+ * its trace and no state that it does not reach with fewer rules, whether the start parts of rules outside a set make no difference to it, whether
+ * each order finds a listed core and each listed core is found by an order, and whether the rules that are broken in a log with a bad state share a
+ * rule with each listed core and contain a listed cut. Each text stands in a block of its own length, so that valgrind sees a byte too many; cut-off
+ * and damaged texts must do no harm.
  */
 #include <stdio.h>
 #include <stdlib.h>
@@ -449,6 +450,79 @@ static void test_random_orders(unsigned count)
     check(found.missed == 0, "random models: a listed core is found by an order that has the rules outside it first");
 }
 
+/* What came up of random logs for random models, and what was wrong. */
+struct blamed {
+    unsigned refused, breaches, no_breach, none_broken, unlike_numbers, unlike_places, apart, no_cut, held, longer;
+};
+
+/* Any states, of which the first has `a` and `b` unset three times in four: so it often meets `init`. */
+static void random_log(uint8_t *log, size_t log_len, unsigned states)
+{
+    for (size_t i = 0; i < log_len; i++)
+        log[i] = (uint8_t)below(states);
+    if (below(4) > 0)
+        log[0] &= 0xFC;
+}
+
+/* Whether each listed core has a rule of the set, and whether a listed cut is a part of it. */
+static void look_at_lists(const uint8_t *text, size_t text_len, uint32_t set, struct blamed *blamed)
+{
+    static uint8_t sets[CODREMIF_LIST_BYTES];
+    unsigned inside = 0;
+    size_t count = codremif_count(codremif_cores(text, text_len, sets, sizeof sets));
+    for (size_t i = 0; i < count; i++)
+        blamed->apart += (codremif_set_at(sets, i) & set) == 0;
+    count = codremif_count(codremif_cuts(text, text_len, sets, sizeof sets));
+    for (size_t i = 0; i < count; i++)
+        inside += (codremif_set_at(sets, i) & ~set) == 0;
+    blamed->no_cut += inside == 0;
+}
+
+/* Where a state is bad, the rules that are not broken are a broken set, and its trace is no longer than the log up to that state. */
+static void blame(const uint8_t *text, size_t text_len, struct blamed *blamed)
+{
+    uint8_t bytes[20], trace[CODREMIF_TRACE_BYTES];
+    size_t log_len = 1 + below(below(2) ? 2 : sizeof bytes);
+    random_log(bytes, log_len, 1u << (text[5] - '0'));
+    uint8_t *log = copy((const char *)bytes, log_len);
+    uint64_t answer = codremif_blame(text, text_len, log, log_len), place = codremif_breach(text, text_len, log, log_len);
+    free(log);
+    if (!codremif_accepted(answer)) {
+        blamed->refused++;
+        blamed->unlike_numbers += answer != CODREMIF_INIT_UNMET;
+        blamed->unlike_places += place != CODREMIF_NO_PLACE;
+    } else if (codremif_no_breach(answer)) {
+        blamed->no_breach++;
+        blamed->unlike_places += place != log_len;
+    } else {
+        uint64_t judged = codremif_judge(text, text_len, codremif_full_set(text, text_len) & ~codremif_set(answer), trace, sizeof trace);
+        blamed->breaches++;
+        blamed->none_broken += codremif_set(answer) == 0;
+        blamed->unlike_places += place >= log_len;
+        blamed->held += !codremif_accepted(judged) || codremif_holds(judged);
+        blamed->longer += codremif_length(judged) > place + 1;
+        look_at_lists(text, text_len, codremif_set(answer), blamed);
+    }
+}
+
+static void test_random_logs(unsigned count)
+{
+    struct blamed blamed = {0, 0, 0, 0, 0, 0, 0, 0, 0, 0};
+    for (unsigned i = 0; i < count; i++) {
+        size_t length;
+        uint8_t *text = random_text(&length);
+        for (unsigned turn = 0; turn < 4; turn++)
+            blame(text, length, &blamed);
+        free(text);
+    }
+    check(blamed.refused > count / 10 && blamed.breaches > count / 2 && blamed.no_breach > count / 10 && blamed.none_broken > count / 200,
+          "random models: logs with a bad state, where rules are broken or none, logs without, and logs that are refused");
+    check(blamed.unlike_numbers == 0, "random models: a log is refused for its first state alone");
+    check(blamed.unlike_places == 0, "random models: the place of the first bad state is in the log, or it is the log's length, or the log is refused");
+    check(blamed.held == 0 && blamed.longer == 0, "random models: without the broken rules of a log the rest is broken, by a trace that is not longer");
+    check(blamed.apart == 0 && blamed.no_cut == 0, "random models: the broken rules of a log share a rule with each listed core, and contain a listed cut");
+}
+
 /* Of a text that is not accepted nothing is promised but that nothing outside it is read. */
 static void test_other_texts(void)
 {
@@ -493,6 +567,7 @@ int main(int argc, char **argv)
     test_random_reached(count);
     test_random_starts(count);
     test_random_orders(count);
+    test_random_logs(count);
     test_other_texts();
     test_longest_names();
     return exit_status();

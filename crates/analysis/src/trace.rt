@@ -2,13 +2,13 @@
 ghost use mathlib.Core.Path.{_≡_};
 ghost use Prim.Native.Nat.{_^_, _<_};
 ghost use Rattle.models.specs.Written.{described};
-ghost use Rattle.searches.specs.Traced.{traceArray};
+ghost use Rattle.traces.specs.Traced.{traceArray};
 ghost use Rattle.semantics.specs.Meaning.{systemOf};
 ghost use Rattle.semantics.specs.TablesOf.{Few, RoomFor};
 use models::model::Model;
 
 // The trace of a set, by masks in the lent room. They are filled once.
-fn trace_with(text: &[u8], m: Model, set: u16, masks: &mut [u16]) -> searches::trace::Trace
+fn trace_with(text: &[u8], m: Model, set: u16, masks: &mut [u16]) -> traces::trace::Trace
     requires { ⌜ RoomFor m (now masks) ⌝ }
     requires { ⌜ set < 2 ^ m .rules ⌝ }
     ensures { λ r. ⌜ r ≡ traceArray (systemOf (described (now (text .entry)) m) set) ⌝ }
@@ -18,7 +18,7 @@ fn trace_with(text: &[u8], m: Model, set: u16, masks: &mut [u16]) -> searches::t
 }
 
 // The trace of a set; a set that holds has none.
-pub fn trace(text: &[u8], m: Model, set: u16) -> searches::trace::Trace
+pub fn trace(text: &[u8], m: Model, set: u16) -> traces::trace::Trace
     requires { ⌜ Few m ⌝ }
     requires { ⌜ set < 2 ^ m .rules ⌝ }
     ensures { λ r. ⌜ r ≡ traceArray (systemOf (described (now (text .entry)) m) set) ⌝ }

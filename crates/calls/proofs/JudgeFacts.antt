@@ -15,9 +15,9 @@ use Rattle.systems.specs.System.{System}
 use Rattle.systems.specs.Verdict.{holds, traceOf}
 use Rattle.models.specs.Written.{described}
 use Rattle.semantics.specs.Meaning.{systemOf}
-use Rattle.searches.specs.declared.trace.Trace.{Trace}
-use Rattle.searches.specs.Traced.{traceArray, traceWith}
-use Rattle.searches.specs.Laws.Traced.{trace-holds, trace-states}
+use Rattle.traces.specs.declared.trace.Trace.{Trace}
+use Rattle.traces.specs.Traced.{traceArray, traceWith}
+use Rattle.traces.specs.Laws.Traced.{trace-holds, trace-states}
 use Rattle.calls.specs.declared.answers.JudgeAnswer.{JudgeAnswer}
 use Rattle.calls.specs.declared.answers.JudgeAnswer.the-variants.{Refused as JudgeRefused, Holds, Broken}
 use Rattle.calls.specs.Answers.{systemIn, traceIn, textOutcome, judgeOutcome, after, verdictOf, judgeAnswer, judgeBytes}

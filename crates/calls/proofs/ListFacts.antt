@@ -15,9 +15,9 @@ use Rattle.semantics.specs.Meaning.{judge}
 use Rattle.sorting.specs.declared.which.WhichList.{WhichList}
 use Rattle.sorting.specs.Which.{listed, ofKind}
 use Rattle.sorting.specs.declared.kinds.Kind.{Kind}
-use Rattle.analysis.specs.declared.lists.Listed.the-variants.{Count as Found, TooShort}
-use Rattle.analysis.specs.declared.lists.Listed.{Listed}
-use Rattle.analysis.specs.Lists.{listedAnswer, listedBytes}
+use Rattle.finding.specs.declared.lists.Listed.the-variants.{Count as Found, TooShort}
+use Rattle.finding.specs.declared.lists.Listed.{Listed}
+use Rattle.finding.specs.Lists.{listedAnswer, listedBytes}
 use Rattle.calls.specs.declared.answers.ListAnswer.{ListAnswer}
 use Rattle.calls.specs.declared.answers.ListAnswer.the-variants.{Refused as ListRefused}
 use Rattle.calls.specs.declared.answers.SetAnswer.the-variants.{Refused as SetRefused, Set}

@@ -17,13 +17,14 @@ use Rattle.models.specs.Written.{described}
 use Rattle.semantics.specs.Meaning.{systemOf}
 use Rattle.systems.specs.System.{System}
 use Rattle.searches.specs.declared.runs.Reached.{Reached}
-use Rattle.searches.specs.Search.{isMarked, search}
+use Rattle.traces.specs.Marked.{isMarked}
+use Rattle.searches.specs.Search.{search}
 use Rattle.searches.specs.Stored.{reachedOf}
 use Rattle.calls.specs.declared.answers.ReachedAnswer.{ReachedAnswer}
 use Rattle.calls.specs.declared.answers.ReachedAnswer.the-variants.{Refused as ReachedRefused, Pairs}
 use Rattle.calls.specs.Answers.{statesIn, systemIn, marksIn, pairsIn, textOutcome, reachedOutcome, after, reachedAnswer, reachedBytes}
 use Rattle.calls.specs.AsRead.{IsRead}
-use Rattle.calls.specs.Laws.Answers.{read-model, rules-read, set-read, vars-most, given-accepted, given-refused, reached-numbers, length-marks}
+use Rattle.calls.specs.Laws.Answers.{read-model, rules-read, states-read, set-read, vars-most, given-accepted, given-refused, reached-numbers, length-marks}
 
 -- a call answers `answer` and leaves the lent bytes as `bytes`
 abbrev Reaches : List ℕ → ℕ → List ℕ → ReachedAnswer → List ℕ → Type 0
@@ -43,14 +44,10 @@ module _ {text : List ℕ} {m : Model} (r : IsRead text m) (S : ℕ) (lent : Lis
   pub reached-by-set : 2 ^ m .rules ≤ S → Reaches text S lent (ReachedRefused 10 0) lent
   reached-by-set h = not-reached text S lent (reached-numbers text S lent .bySet (r .outcome) (rw (rules-read r) at h))
 
-  states-read : 2 ^ m .vars ≡ statesIn text
-  unfolding statesIn described
-  states-read = ap (λ D. 2 ^ D .vars) (read-model r)
-
   module _ (set : S < 2 ^ m .rules) where
     pub reached-by-length : length lent < 2 ^ m .vars → Reaches text S lent (ReachedRefused 11 0) lent
     reached-by-length h =
-        not-reached text S lent (reached-numbers text S lent .byLength (r .outcome) (set-read r set) (omega (arith, length-marks text S, states-read)))
+        not-reached text S lent (reached-numbers text S lent .byLength (r .outcome) (set-read r set) (omega (arith, length-marks text S, states-read r)))
 
     -- the search x of the set
     module _ {x : Reached} (said : x ≡ reachedOf (systemOf (described text m) S)) where
@@ -64,7 +61,7 @@ module _ {text : List ℕ} {m : Model} (r : IsRead text m) (S : ℕ) (lent : Lis
       marks-are : tabulate (2 ^ m .vars) (λ s. boolByte (getD (x .marks) s false)) ≡ marksIn text S
       unfolding M marksIn reachedOf
       marks-are =
-          ap (λ n. tabulate n (λ s. boolByte (getD (x .marks) s false))) states-read
+          ap (λ n. tabulate n (λ s. boolByte (getD (x .marks) s false))) (states-read r)
           ∙ same-entries (statesIn text) _ _
           (λ s h.
           ap (λ y. boolByte (getD (y .marks) s false)) reached-is
@@ -77,7 +74,7 @@ module _ {text : List ℕ} {m : Model} (r : IsRead text m) (S : ℕ) (lent : Lis
           → Reaches text S lent (Pairs (x .pairs)) (overwritten (tabulate (2 ^ m .vars) (λ s. boolByte (getD (x .marks) s false))) lent)
       unfolding M reachedAnswer reachedBytes after pairsIn reachedOf
       reached-by-none h =
-          let e = reached-numbers text S lent .byNone (r .outcome) (set-read r set) (omega (arith, length-marks text S, states-read)) in (
+          let e = reached-numbers text S lent .byNone (r .outcome) (set-read r set) (omega (arith, length-marks text S, states-read r)) in (
             ap (λ y. Pairs (y .pairs)) reached-is ∙ sym (given-accepted ReachedRefused _ e),
             ap (λ l. overwritten l lent) marks-are ∙ sym (given-accepted _ _ e),
           )

@@ -16,7 +16,8 @@ use Rattle.models.specs.Reading.{readModel}
 use Rattle.models.specs.Written.{modelIn}
 use Rattle.systems.specs.System.{System}
 use Rattle.systems.specs.Verdict.{holds, traceOf}
-use Rattle.searches.specs.Search.{isMarked, search}
+use Rattle.traces.specs.Marked.{isMarked}
+use Rattle.searches.specs.Search.{search}
 use Rattle.semantics.specs.Meaning.{systemOf, judge}
 use Rattle.sorting.specs.declared.which.WhichList.{WhichList}
 use Rattle.sorting.specs.Which.{listed, ofKind}

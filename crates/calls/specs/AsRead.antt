@@ -6,8 +6,8 @@ use mathlib.Core.List.{List}
 use Rattle.models.specs.declared.model.Model.{Model}
 use Rattle.models.specs.declared.model.Outcome.the-variants.{Accepted}
 use Rattle.models.specs.Reading.{readModel}
-use Rattle.analysis.specs.declared.lists.Listed.{Listed}
-use Rattle.analysis.specs.declared.lists.Listed.the-variants.{Count as Counted, TooShort}
+use Rattle.finding.specs.declared.lists.Listed.{Listed}
+use Rattle.finding.specs.declared.lists.Listed.the-variants.{Count as Counted, TooShort}
 use Rattle.calls.specs.declared.answers.ListAnswer.{ListAnswer}
 use Rattle.calls.specs.declared.answers.ListAnswer.the-variants.{Refused as ListRefused, Count}
 use Rattle.calls.specs.Answers.{textOutcome}

@@ -14,13 +14,13 @@ fn rules_of(text: &[u8], m: Model, kind: Kind) -> u16
     ensures { λ r. ⌜ r ≡ kindIn kind (now (text .entry)) ⌝ }
 {
     match kind {
-        Kind::Must => analysis::must::must(text, m),
+        Kind::Must => finding::must::must(text, m),
         Kind::May => {
-            let kinds = analysis::kinds::kinds(text, m);
+            let kinds = finding::kinds::kinds(text, m);
             kinds.may
         }
         Kind::Irrelevant => {
-            let kinds = analysis::kinds::kinds(text, m);
+            let kinds = finding::kinds::kinds(text, m);
             kinds.irrelevant
         }
     }
@@ -36,7 +36,7 @@ pub fn give_must(text: &[u8]) -> SetAnswer
         Outcome::Refused(number, line) => SetAnswer::Refused(number, line),
         Outcome::Accepted => {
             let m = reading.model;
-            SetAnswer::Set(analysis::must::must(text, m))
+            SetAnswer::Set(finding::must::must(text, m))
         }
     }
 }

@@ -3,7 +3,7 @@ ghost use mathlib.Core.Path.{_≡_};
 ghost use Rattle.calls.specs.Answers.{listAnswer, listBytes};
 ghost use Rattle.calls.specs.AsRead.{ofListed};
 use crate::answers::ListAnswer;
-use analysis::lists::Listed;
+use finding::lists::Listed;
 use models::model::Outcome;
 use sorting::which::WhichList;
 
@@ -28,7 +28,7 @@ pub fn list(text: &[u8], which: WhichList, lent: &mut [u8]) -> ListAnswer
         Outcome::Refused(number, line) => ListAnswer::Refused(number, line),
         Outcome::Accepted => {
             let m = reading.model;
-            answer_of(analysis::lists::list(text, m, which, lent))
+            answer_of(finding::lists::list(text, m, which, lent))
         }
     }
 }

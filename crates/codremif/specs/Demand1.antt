@@ -1,14 +1,18 @@
 -- What demand 1 of the mission says of the calls: each is refused by the first fitting number, and then every other part of the answer is 0 and no
 -- lent byte has changed; where no number fits it is accepted. The numbers of the text are those of `Rattle.models.specs.Refusals`; the calls add
 -- theirs. The theorems are in `Demands`. From document 01, "When a call is turned away". Assumes nothing: these are definitions.
-use Prim.Native.Nat.{ℕ, _+_, _*_, _%_, _^_, _≤_, _<_}
+use Prim.Native.Nat.{ℕ, _+_, _-_, _*_, _%_, _^_, _≤_, _<_}
 use mathlib.Core.Path.{_≡_}
 use mathlib.Core.Logic.{_↔_, _⊎_}
+use mathlib.Core.Bool.{false}
 use mathlib.Core.List.{List, []}
-use lib.ListN.{length}
+use lib.ListN.{length, getD}
 use Rattle.sets.specs.Orders.{IsOrder}
 use Rattle.models.specs.Refusals.{FitsAt, ComesBefore}
+use Rattle.models.specs.Written.{modelIn}
 use Rattle.systems.specs.System.{Trace}
+use Rattle.logs.specs.Log.{IsLog}
+use Rattle.semantics.specs.Meaning.{initMet}
 use Rattle.sorting.specs.declared.which.WhichList.{WhichList}
 use Rattle.sorting.specs.declared.kinds.Kind.{Kind}
 use Rattle.calls.specs.declared.answers.JudgeAnswer.the-variants.{Refused as JudgeRefused}
@@ -18,17 +22,23 @@ use Rattle.calls.specs.declared.answers.SetAnswer.the-variants.{Refused as SetR
 use Rattle.calls.specs.Answers.{rulesIn, statesIn, systemIn, listIn, judgeAnswer, judgeBytes, reachedAnswer, reachedBytes, listAnswer, listBytes, kindAnswer}
 use Rattle.preferences.specs.declared.answer.OneCoreAnswer.the-variants.{Refused as OneCoreRefused}
 use Rattle.preferences.specs.Answer.{oneCoreAnswer}
-use Rattle.codremif.specs.Packing.{Parts, refused, judgeParts, reachedParts, listParts, setParts, oneCoreParts, packed}
+use Rattle.blaming.specs.declared.answer.BlameAnswer.the-variants.{Refused as BlameRefused}
+use Rattle.blaming.specs.Answer.{blameAnswer}
+use Rattle.packing.specs.Packing.{Parts, refused, judgeParts, reachedParts, listParts, setParts, oneCoreParts, blameParts, breachNumber, packed}
 
 -- ---- the numbers of each call
 
--- A call that is handed a set: 1 to 9, 10, 11.
-pub data AskedFits (text : List ℕ) (S : ℕ) (TooFew : Type 0) : (number line : ℕ) → Type 0 where
-  asked-text : {number line : ℕ} → FitsAt text number line → AskedFits text S TooFew number line
-  -- 10. "The judged set is 2^R or more (line 0)."
-  set-beyond : 2 ^ rulesIn text ≤ S → AskedFits text S TooFew 10 0
-  -- 11. "The lent bytes are fewer than this answer's trace or list needs (line 0)."
-  bytes-fewer : TooFew → AskedFits text S TooFew 11 0
+-- A call adds numbers of its own to those of the text, 1 to 9: each where its ground is met, and with line 0.
+pub data CallFits (text : List ℕ) (Own : ℕ → Type 0) : (number line : ℕ) → Type 0 where
+  text-fits : {number line : ℕ} → FitsAt text number line → CallFits text Own number line
+  own-fits : {number : ℕ} → Own number → CallFits text Own number 0
+
+-- A call that is handed a set: 10 and 11.
+pub data AskedOwn (text : List ℕ) (S : ℕ) (TooFew : Type 0) : ℕ → Type 0 where
+  -- "The judged set is 2^R or more (line 0)."
+  set-beyond : 2 ^ rulesIn text ≤ S → AskedOwn text S TooFew 10
+  -- "The lent bytes are fewer than this answer's trace or list needs (line 0)."
+  bytes-fewer : TooFew → AskedOwn text S TooFew 11
 
 -- Judging a set needs one byte for each state of the trace,
 pub record TraceLonger (text : List ℕ) (S : ℕ) (lent : List ℕ) : Type 0 where
@@ -37,30 +47,40 @@ pub record TraceLonger (text : List ℕ) (S : ℕ) (lent : List ℕ) : Type 0 wh
   pub longer : length lent < length run
 
 abbrev pub JudgeFits : (text : List ℕ) (S : ℕ) (lent : List ℕ) (number line : ℕ) → Type 0
-JudgeFits text S lent = AskedFits text S (TraceLonger text S lent)
+JudgeFits text S lent = CallFits text (AskedOwn text S (TraceLonger text S lent))
 
 -- and its reached states one byte for each state of the model.
 abbrev pub ReachedFits : (text : List ℕ) (S : ℕ) (lent : List ℕ) (number line : ℕ) → Type 0
-ReachedFits text S lent = AskedFits text S (length lent < statesIn text)
-
--- A call that is handed no set, and adds one number to those of the text: 1 to 9, and that number.
-pub data OwnFits (text : List ℕ) (own : ℕ) (Ground : Type 0) : (number line : ℕ) → Type 0 where
-  text-fits : {number line : ℕ} → FitsAt text number line → OwnFits text own Ground number line
-  own-fits : Ground → OwnFits text own Ground own 0
+ReachedFits text S lent = CallFits text (AskedOwn text S (length lent < statesIn text))
 
 -- Listing the cores or the cuts: 11. Each set takes two bytes.
+pub data ListOwn (which : WhichList) (text lent : List ℕ) : ℕ → Type 0 where
+  list-longer : length lent < 2 * length (listIn which text) → ListOwn which text lent 11
+
 abbrev pub ListFits : (which : WhichList) (text lent : List ℕ) (number line : ℕ) → Type 0
-ListFits which text lent = OwnFits text 11 (length lent < 2 * length (listIn which text))
+ListFits which text lent = CallFits text (ListOwn which text lent)
 
 -- Finding one core: 13, "the order is not R bytes that have each place from 0 to R - 1 exactly once".
+pub data OneCoreOwn (text order : List ℕ) : ℕ → Type 0 where
+  no-order : ¬ IsOrder (rulesIn text) order → OneCoreOwn text order 13
+
 abbrev pub OneCoreFits : (text order : List ℕ) (number line : ℕ) → Type 0
-OneCoreFits text order = OwnFits text 13 (¬ IsOrder (rulesIn text) order)
+OneCoreFits text order = CallFits text (OneCoreOwn text order)
+
+-- Blame from a log: 14, "the log is empty or has a state of 2^N or more", and 15, "its first state does not meet `init`".
+pub data BlameOwn (text log : List ℕ) : ℕ → Type 0 where
+  no-log : ¬ IsLog (statesIn text) log → BlameOwn text log 14
+  init-unmet : initMet (modelIn text) (getD log 0 0) ≡ false → BlameOwn text log 15
+
+abbrev pub BlameFits : (text log : List ℕ) (number line : ℕ) → Type 0
+BlameFits text log = CallFits text (BlameOwn text log)
 
 -- Giving MUST, MAY or the irrelevant rules: 1 to 9, as `FitsAt` has them.
 
 -- ---- the order
 
--- "Numbers 1 to 8 are tried line by line, in this order within a line; after the whole text come 9, 10 and 11." 13 "is tried after number 9".
+-- "Numbers 1 to 8 are tried line by line, in this order within a line; after the whole text come 9, 10 and 11." 13 "is tried after number 9", and 14 and
+-- 15 "both after 9, in this order".
 abbrev pub TriedBefore : (number line number′ line′ : ℕ) → Type 0
 TriedBefore number line number′ line′ =
     ((number ≤ 9) × (9 < number′)) ⊎ (((9 < number) × (number < number′)) ⊎ ((number ≤ 9) × ((number′ ≤ 9) × ComesBefore number line number′ line′)))
@@ -91,6 +111,7 @@ pub record Demand1 (text : List ℕ) : Type 0 where
       → Refusals (ListFits which text lent) ListRefused listParts lent (listAnswer which text lent) (listBytes which text lent)
   pub kind : (kind : Kind) → Refusals (FitsAt text) SetRefused setParts [] (kindAnswer kind text) []
   pub oneCore : (order : List ℕ) → Refusals (OneCoreFits text order) OneCoreRefused oneCoreParts [] (oneCoreAnswer text order) []
+  pub blame : (log : List ℕ) → Refusals (BlameFits text log) BlameRefused blameParts [] (blameAnswer text log) []
 
 -- ---- the same of the exported calls
 
@@ -109,3 +130,6 @@ pub record HostDemand1 (text : List ℕ) : Type 0 where
       → HostRefusals (ListFits which text lent) lent (packed (listParts (listAnswer which text lent))) (listBytes which text lent)
   pub kind : (kind : Kind) → HostRefusals (FitsAt text) [] (packed (setParts (kindAnswer kind text))) []
   pub oneCore : (order : List ℕ) → HostRefusals (OneCoreFits text order) [] (packed (oneCoreParts (oneCoreAnswer text order))) []
+  pub blame : (log : List ℕ) → HostRefusals (BlameFits text log) [] (packed (blameParts (blameAnswer text log))) []
+  -- A place has no room for a number: codremif_breach tells a refusal by 2^64 - 1.
+  pub breach : (log : List ℕ) (number line : ℕ) → FirstOf (BlameFits text log) number line → breachNumber (blameAnswer text log) ≡ 2 ^ 64 - 1

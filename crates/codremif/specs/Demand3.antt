@@ -20,7 +20,7 @@ use Rattle.calls.specs.declared.answers.SetAnswer.{SetAnswer}
 use Rattle.calls.specs.declared.answers.SetAnswer.the-variants.{Set}
 use Rattle.codremif.specs.declared.together.Together.{Together}
 use Rattle.calls.specs.Answers.{rulesIn, systemIn, judgeAnswer, listAnswer, listBytes, kindAnswer}
-use Rattle.codremif.specs.Packing.{judgeParts, listParts, setParts, packed}
+use Rattle.packing.specs.Packing.{judgeParts, listParts, setParts, packed}
 
 -- ---- how calls tell their answers
 

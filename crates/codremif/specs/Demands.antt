@@ -1,5 +1,5 @@
 -- The demands of the mission, as theorems about what exactly the calls answer and write. Nothing is assumed.
--- To believe them, read these files below crates/ in this order (lines without imports and blank lines, 1,811 in all). What is proved of their
+-- To believe them, read these files below crates/ in this order (lines without imports and blank lines, 1,958 in all). What is proved of their
 -- definitions stands in `Laws` and need not be read, and neither need the functions that compute (the reading of a text, the verdict, the lists):
 -- the theorems say what they give.
 --   a number as a set of rules or of letters           sets/specs/Bit                8
@@ -8,7 +8,7 @@
 --   bytes, and those of a name                         lines/specs/Bytes            43
 --   a legal rule and its line                          lines/specs/Written          55
 --   a model, when it is legal, its written form        models/specs/Written         81
---   how many property lines a text has                 models/specs/Properties      16
+--   how many property lines a text has                 bodies/specs/Properties      16
 --   accepted texts are exactly these                   models/specs/Accepted        34
 --   when a text is refused: the numbers 1 to 9         models/specs/Refusals       119
 --   the reading answers with the first that fits       models/specs/Refused         29
@@ -16,8 +16,10 @@
 --   how many numbers below a bound pass a test         systems/specs/Count           6
 --   and 1 for one that passes, 0 for one that does not sets/specs/Gathered          11
 --   a list given entry by entry                        sets/specs/Tabulated          6
---   the collecting of the reached states               searches/specs/Search        47
+--   the states that runs mark                          traces/specs/Marked           6
+--   the collecting of the reached states               searches/specs/Search        42
 --   what is to hold of it, for any system              searches/specs/Collecting    14
+--   a log of states, and what it says                  logs/specs/Log               45
 --   the transition system of a model and a set         semantics/specs/Meaning      51
 --   parts, sharing a rule, the order of a list         sets/specs/Sets              30
 --   cores and cuts of any judgement                    sets/specs/Cores             33
@@ -32,11 +34,12 @@
 --   which list is meant, and which kind of rules       sorting/specs/Which          13
 --   what each call answers and writes                  calls/specs/Answers         117
 --   what finding one core answers                      preferences/specs/Answer     20
+--   what blame from a log answers                      blaming/specs/Answer         24
 --   a list in bytes, and the first set that fits       lookup/specs/Search          29
 --   where a part of a slice lies                       slices/specs/Address         11
 --   what two lists say of a set, and the witness       lookup/specs/Suffices        54
---   an answer as one 64-bit number                     codremif/specs/Packing       77
---   demand 1 for a text                                codremif/specs/Demand1       75
+--   an answer as one 64-bit number                     packing/specs/Packing        88
+--   demand 1 for a text                                codremif/specs/Demand1       89
 --   demand 2 for a text                                codremif/specs/Demand2       16
 --   demand 3 for a text                                codremif/specs/Demand3       89
 --   rules that nobody relies on, for a text            codremif/specs/Relied        69
@@ -44,7 +47,8 @@
 --   several properties together, for a text            codremif/specs/Properties    51
 --   the reached states of a set, for a text            codremif/specs/Reached       21
 --   one core by an order, for a text                   codremif/specs/OneCore       32
---   rules that speak about power-up, for a text        codremif/specs/PowerUp       34
+--   rules that speak about power-up, for a text        codremif/specs/PowerUp       35
+--   blame from a log, for a text                       codremif/specs/Blame         51
 --   the starred examples                               codremif/specs/Examples     112
 use Prim.Native.Nat.{ℕ, _^_, _<_}
 use mathlib.Core.Path.{_≡_}
@@ -65,6 +69,7 @@ use Rattle.codremif.specs.Properties.{SeveralProperties}
 use Rattle.codremif.specs.Reached.{EverythingReached}
 use Rattle.codremif.specs.OneCore.{InMyOrder, oneCoreByAnswers, oneCoreByHosts}
 use Rattle.codremif.specs.PowerUp.{PowerUp}
+use Rattle.codremif.specs.Blame.{blameByAnswers, blameByHosts, FromLogs}
 use Rattle.codremif.specs.Laws.Written.{written-system}
 use Rattle.codremif.specs.Laws.Demand1.{calls-meet-demand1, hosts-meet-demand1}
 use Rattle.codremif.specs.Laws.Demand2.{judging-meets-demand2}
@@ -76,6 +81,7 @@ use Rattle.codremif.specs.Laws.Properties.{calls-together, hosts-togethe
 use Rattle.codremif.specs.Laws.Reached.{everything-is-reached}
 use Rattle.codremif.specs.Laws.OneCore.{calls-in-order, hosts-in-order}
 use Rattle.codremif.specs.Laws.PowerUp.{power-up-told}
+use Rattle.codremif.specs.Laws.Blame.{calls-blame, hosts-blame}
 
 -- A text that is written from a legal model means what the model means: the runs of each set of rules are the model's.
 pub meaning : (M : Described) → Legal M → (S : ℕ) → systemIn (writtenModel M) S ≡ systemOf M S
@@ -142,3 +148,13 @@ one-core-in-my-order-hosts = hosts-in-order
 -- as `1`, and that a text without start parts means what it meant.
 pub rules-about-power-up : (text : List ℕ) → textOutcome text ≡ Accepted → PowerUp text
 rules-about-power-up = power-up-told
+
+-- Blame from a station's log: for every accepted text and every accepted log, which rules the call blames and where the log first breaks a property; and
+-- where it does, that the log up to there is a run of the full set without the blamed rules, that these share a rule with every core, and that a cut is a
+-- part of them.
+pub blame-from-a-log : (text : List ℕ) → textOutcome text ≡ Accepted → FromLogs textByAnswers blameByAnswers text
+blame-from-a-log = calls-blame
+
+-- The same of the exported calls, by their 64-bit answers and their lent bytes.
+pub blame-from-a-log-hosts : (text : List ℕ) → textOutcome text ≡ Accepted → FromLogs textByHosts blameByHosts text
+blame-from-a-log-hosts = hosts-blame

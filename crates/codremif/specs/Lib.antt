@@ -1,6 +1,4 @@
--- An answer as one number for a C host (`Packing`), the demands as theorems (`Demands`, which says in which order to read), and the starred
--- examples. What is proved of the definitions stands in `Laws`.
-pub mod Packing
+-- The demands as theorems (`Demands`, which says in which order to read), and the starred examples. What is proved of the definitions stands in `Laws`.
 pub mod Demand1
 pub mod Demand2
 pub mod Demand3
@@ -10,6 +8,7 @@ pub mod Suffices
 pub mod Properties
 pub mod Reached
 pub mod OneCore
+pub mod Blame
 pub mod PowerUp
 pub mod Laws
 pub mod Demands

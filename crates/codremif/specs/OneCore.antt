@@ -11,7 +11,7 @@ use Rattle.calls.specs.Answers.{rulesIn}
 use Rattle.preferences.specs.declared.answer.OneCoreAnswer.{OneCoreAnswer}
 use Rattle.preferences.specs.declared.answer.OneCoreAnswer.the-variants.{CoreFound, NoCore}
 use Rattle.preferences.specs.Answer.{oneCoreAnswer}
-use Rattle.codremif.specs.Packing.{oneCoreParts, packed}
+use Rattle.packing.specs.Packing.{oneCoreParts, packed}
 use Rattle.codremif.specs.Suffices.{TextTelling, WroteList}
 
 -- What the call answers to a text and an order, and how it tells a core, and that there is none, with so many judgements.

@@ -17,6 +17,7 @@ use Rattle.sorting.specs.declared.kinds.Kind.{Kind}
 use Rattle.calls.specs.declared.answers.JudgeAnswer.the-variants.{Holds, Broken}
 use Rattle.calls.specs.Answers.{rulesIn, statesIn, systemIn, judgeAnswer, judgeBytes, reachedAnswer, reachedBytes, listAnswer, listBytes, kindAnswer}
 use Rattle.preferences.specs.Answer.{oneCoreAnswer}
+use Rattle.blaming.specs.Answer.{blameAnswer}
 
 -- The state s meets `init` and the start part of each rule in the set S.
 abbrev pub MeetsAtStart : List ℕ → ℕ → ℕ → Type 0
@@ -41,6 +42,7 @@ pub record SameAnswers (text first : List ℕ) : Type 0 where
   pub listed : (which : WhichList) (lent : List ℕ) → listBytes which text lent ≡ listBytes which first lent
   pub sorted : (kind : Kind) → kindAnswer kind text ≡ kindAnswer kind first
   pub ordered : (order : List ℕ) → oneCoreAnswer text order ≡ oneCoreAnswer first order
+  pub blamed : (log : List ℕ) → blameAnswer text log ≡ blameAnswer first log
 
 pub record PowerUp (text : List ℕ) : Type 0 where
   -- "The start states of a set are from now on those that meet `init` and the start part of each rule in the set."

@@ -9,7 +9,7 @@ use lib.ListN.{length, getD, drop}
 use Rattle.searches.specs.Collecting.{Collecting}
 use Rattle.calls.specs.declared.answers.ReachedAnswer.the-variants.{Pairs}
 use Rattle.calls.specs.Answers.{rulesIn, statesIn, systemIn, reachedAnswer, reachedBytes}
-use Rattle.codremif.specs.Packing.{reachedParts, packed}
+use Rattle.packing.specs.Packing.{reachedParts, packed}
 
 -- What the call gave and wrote for set S, where `told` is how it tells so many pairs.
 pub record ReachedStates {A : Type 0} (told : ℕ → A) (text : List ℕ) (S : ℕ) (lent : List ℕ) (answer : A) (bytes : List ℕ) : Type 0 where

@@ -20,7 +20,7 @@ use Rattle.sorting.specs.declared.kinds.Kind.the-variants.{Must, May, Irrelevan
 use Rattle.calls.specs.declared.answers.JudgeAnswer.the-variants.{Holds}
 use Rattle.calls.specs.declared.answers.SetAnswer.the-variants.{Set}
 use Rattle.calls.specs.Answers.{rulesIn, listIn, kindIn, textOutcome, judgeAnswer, kindAnswer}
-use Rattle.codremif.specs.Packing.{setParts, packed}
+use Rattle.packing.specs.Packing.{setParts, packed}
 
 -- ---- the kinds of rules
 

@@ -16,7 +16,7 @@ use Rattle.calls.specs.declared.answers.JudgeAnswer.the-variants.{Broken}
 use Rattle.calls.specs.declared.answers.ListAnswer.{ListAnswer}
 use Rattle.calls.specs.declared.answers.SetAnswer.{SetAnswer}
 use Rattle.calls.specs.Answers.{rulesIn, textOutcome, listAnswer, listBytes}
-use Rattle.codremif.specs.Packing.{listParts, sufficesParts, witnessPlace, packed}
+use Rattle.packing.specs.Packing.{listParts, sufficesParts, witnessPlace, packed}
 use Rattle.codremif.specs.Demand3.{Telling, inRattle, forHosts}
 
 -- ---- any two lists

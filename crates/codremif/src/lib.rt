@@ -1,4 +1,3 @@
 // The part: the calls for a C host, which gets each answer as one number, and the demands on them.
 pub mod host;
-mod packing;
 pub mod together;

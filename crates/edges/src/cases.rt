@@ -1,5 +1,6 @@
 // What each call of a case is given and answers. Field 0 says which call it is, and field 1 is the case's name. Field 2 is a model text, field 3 how many
-// bytes are lent, at most eight, and field 4 a set; of a look-up field 2 is the core list and field 3 the cut list, and of one core field 3 is the order.
+// bytes are lent, at most eight, and field 4 a set; of a look-up field 2 is the core list and field 3 the cut list, of one core field 3 is the order, and of
+// blame the log.
 ghost use Prim.Native.Nat.{_≤_};
 use crate::fields;
 use crate::shown;
@@ -71,14 +72,24 @@ fn look_up<'a>(cores: &'a [u8], cuts: &'a [u8], set: u32) {
     }
 }
 
-// The calls that are given the bytes of two fields: a text and an order, or two lists.
+// The calls that are given the bytes of two fields: a text and an order or a log, or two lists.
 fn ask_two(call: &[u8], first: &[u8], line: &[u8], set: u32) {
     let mut second = [0u8; 2048];
     let n = fields::bytes_in(fields::field(line, 3), &mut second);
     if slices::parts::same_bytes(call, b"one core") {
         return shown::one_core(preferences::one_core::one_core(first, &second[..n]));
     }
+    if slices::parts::same_bytes(call, b"blame") {
+        return shown::blamed(blaming::blame::blame(first, &second[..n]));
+    }
     look_up(first, &second[..n], set);
+}
+
+// Whether the bytes of two fields are given.
+fn is_given_two(call: &[u8]) -> bool {
+    slices::parts::same_bytes(call, b"look up")
+        | slices::parts::same_bytes(call, b"one core")
+        | slices::parts::same_bytes(call, b"blame")
 }
 
 // The calls that are given a text.
@@ -107,7 +118,7 @@ fn run_call(line: &[u8], first: &[u8]) {
     if slices::parts::same_bytes(call, b"look up in one list") {
         return look_up(first, first, set);
     }
-    if slices::parts::same_bytes(call, b"look up") | slices::parts::same_bytes(call, b"one core") {
+    if is_given_two(call) {
         return ask_two(call, first, line, set);
     }
     ask(call, first, room, set);

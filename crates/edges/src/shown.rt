@@ -1,4 +1,5 @@
 // How an answer is written, and the lent bytes after a call.
+use blaming::answer::BlameAnswer;
 use calls::answers::JudgeAnswer;
 use calls::answers::ListAnswer;
 use calls::answers::ReachedAnswer;
@@ -70,6 +71,20 @@ pub(crate) fn one_core(answer: OneCoreAnswer) {
             put_number(b" judgements=", judgements as u64);
         }
         OneCoreAnswer::NoCore(judgements) => put_number(b"no core judgements=", judgements as u64),
+    }
+}
+
+pub(crate) fn blamed(answer: BlameAnswer) {
+    match answer {
+        BlameAnswer::Refused(number, line) => put_refusal(number, line),
+        BlameAnswer::BreachAt(set, place) => {
+            put_number(b"blamed=", set as u64);
+            put_number(b" breach at ", place as u64);
+        }
+        BlameAnswer::NoBreach(set, states) => {
+            put_number(b"blamed=", set as u64);
+            put_number(b" no breach in ", states as u64);
+        }
     }
 }
 

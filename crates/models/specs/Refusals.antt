@@ -14,7 +14,7 @@ use Rattle.lines.specs.Bytes.{bytes}
 use Rattle.lines.specs.Decimal.{decimal}
 use Rattle.lines.specs.Lines.{varsKey, rulesKey, initKey, propKey, ruleKey, all}
 use Rattle.lines.specs.Written.{Within, LegalExpr}
-use Rattle.models.specs.Properties.{afterLine, propertyCount}
+use Rattle.bodies.specs.Properties.{afterLine, propertyCount}
 
 -- ---- the lines of a text
 

@@ -1,8 +1,8 @@
 // The reading of a whole model text.
 ghost use mathlib.Core.Path.{_≡_};
 ghost use Rattle.models.specs.Reading.{refusedReading, finished, readModel};
-use crate::progress::LineStart;
-use crate::progress::Progress;
+use bodies::progress::LineStart;
+use bodies::progress::Progress;
 use lines::line::Line;
 
 // A model, by where its parts stand in the text: N, R and how many properties there are, the expression of `init`, that of each property, the name
@@ -94,19 +94,19 @@ pub fn read_model(text: &[u8]) -> Reading
     let Line::Read(vars, bytes1) = a else {
         return refuse(lines::line::fault_number(a), p1.line);
     };
-    let p2 = crate::progress::behind(text, p1, bytes1);
+    let p2 = bodies::progress::behind(text, p1, bytes1);
     let b = lines::counts::count_line(b"rules=", 16, slices::parts::rest(text, p2.at));
     let Line::Read(rules, bytes2) = b else {
         return refuse(lines::line::fault_number(b), p2.line);
     };
-    let p3 = crate::progress::behind(text, p2, bytes2);
+    let p3 = bodies::progress::behind(text, p2, bytes2);
     let c = lines::expressions::state_line(b"init=", vars, slices::parts::rest(text, p3.at));
     let Line::Read(init, bytes3) = c else {
         return refuse(lines::line::fault_number(c), p3.line);
     };
-    let p4 = crate::progress::behind(text, p3, bytes3);
-    let properties = crate::properties::property_count(slices::parts::rest(text, p4.at));
-    let before = crate::properties::property_lines(text, vars, p4, properties);
-    let r = crate::rules::rule_lines(text, vars, before, rules);
+    let p4 = bodies::progress::behind(text, p3, bytes3);
+    let properties = bodies::properties::property_count(slices::parts::rest(text, p4.at));
+    let before = bodies::properties::property_lines(text, vars, p4, properties);
+    let r = bodies::rules::rule_lines(text, vars, before, rules);
     finish(text, vars, rules, p3.at + init, properties, r)
 }

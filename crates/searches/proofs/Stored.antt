@@ -1,5 +1,6 @@
--- What the arrays of a search hold, step by step: the run at each place, what a mark more changes, and that the start states and a row of pairs, tried
--- one by one, store the runs and the pairs of `startsBelow` and `tryRow`. From the definitions and the laws of lists, of counts and of the search. Assumes nothing.
+-- What the arrays of a search hold, step by step: what a mark more changes, and that the start states and a row of pairs, tried one by one, store the
+-- runs and the pairs of `startsBelow` and `tryRow`. And the trace among the runs of the whole search. From the laws of the runs that arrays hold, of
+-- lists, of counts and of the search. Assumes nothing.
 use Prim.Native.Nat.{ℕ, zero, suc, _+_, _*_, _≤_, _<_}
 use mathlib.Core.Path.{_≡_, refl, sym, ap, ap₂, subst, _∙_}
 use mathlib.Core.Logic.{_≢_, ⊎-elim}
@@ -10,44 +11,32 @@ use native.Mathlib.Nat.{mul-le-mul}
 use native.Mathlib.Omega.{arith}
 use native.Mathlib.Numerals.{add-one}
 use borrow.Author.Count.{below-more}
-use borrow.Author.Tests.{ltb-true, ltb-false, eqb-true, eqb-false, not-true}
-use lib.Dec.{eqb, ltb}
-use lib.ListN.{length, getD, set, replicate, length-append, length-set, length-replicate, List·getD-append, List·getD-eq-default}
-use lib.Seq.{getD-at, getD-set-same, getD-set-other}
+use borrow.Author.Tests.{eqb-true, eqb-false, not-true}
+use lib.Dec.{eqb}
+use lib.ListN.{length, getD, set, replicate, length-set, length-replicate}
+use lib.Seq.{getD-set-same, getD-set-other}
 use Rattle.sets.specs.Tabulated.{tabulate}
 use Rattle.sets.specs.Laws.Tabulated.{tabulated}
 use Rattle.searches.specs.declared.runs.Reached.{Reached}
-use Rattle.searches.specs.declared.runs.Runs.{Runs}
-use Rattle.systems.specs.Count.{count}
-use Rattle.systems.specs.Laws.Count.{count-le, count-less, count-none, count-one-more}
+use Rattle.traces.specs.declared.runs.Runs.{Runs}
+use Rattle.systems.specs.Laws.Count.{count-less, count-none, count-one-more}
+use Rattle.systems.specs.Least.{least}
+use Rattle.systems.specs.Laws.Least.{least-same}
 use Rattle.systems.specs.System.{System, last}
+use Rattle.systems.specs.Verdict.{traceOf}
 use Rattle.systems.specs.Laws.Walks.{last-snoc, walk-last}
-use Rattle.searches.specs.Search.{Collection, isMarked, tryState, startsBelow, pairTried, tryRow, explored, search}
+use Rattle.traces.specs.Marked.{isMarked}
+use Rattle.searches.specs.Search.{Collection, tryState, startsBelow, pairTried, tryRow, explored, search}
 use Rattle.searches.specs.Laws.SearchSteps.{isMarked-nil, isMarked-snoc, startsBelow-zero, startsBelow-next, next-unmarked, tryPair-tried, tryRow-zero, tryRow-next, tryRow-stays, explored-next, explored-full}
-use Rattle.searches.specs.Laws.Search.{explored-collected, explored-short, search-ended}
+use Rattle.searches.specs.Laws.Search.{explored-collected, explored-short, search-ended, search-trace}
 use Rattle.searches.specs.Laws.Collecting.{explored-pairs}
-use Rattle.searches.specs.Stored.{runsTo, runsIn, collectionIn, withRun, Sound, Stores, reachedOf}
+use Rattle.traces.specs.Stored.{runsTo, runsIn, Sound}
+use Rattle.searches.specs.Stored.{collectionIn, withRun, Stores, reachedOf}
+use Rattle.traces.specs.Laws.Runs.{same-place, sound-length, sound-last, getD-repeat}
 
--- ---- the run at a place
-
--- One run more leaves what stands at an earlier place, and that nothing stands at 128.
-same-place : (q : List (List ℕ)) (r : List ℕ) (p : ℕ) → length q < 128 → (p < 128 → p < length q) → getD (q ++ (r ∷ [])) p [] ≡ getD q p []
-same-place q r p h within = ⊎-elim far near (dichotomy (ltb p 128))
-  where
-    near : ltb p 128 ≡ true → getD (q ++ (r ∷ [])) p [] ≡ getD q p []
-    near e = List·getD-append q (r ∷ []) [] p (within (ltb-true p 128 e))
-
-    far : ltb p 128 ≡ false → getD (q ++ (r ∷ [])) p [] ≡ getD q p []
-    far e =
-        let g : 128 ≤ p = ltb-false p 128 e in
-        List·getD-eq-default (q ++ (r ∷ [])) [] (omega (arith, length-append q (r ∷ []))) ∙ sym (List·getD-eq-default q [] (omega arith))
+-- ---- a mark more
 
 module _ (order parents : List ℕ) where
-  length-runs : (n : ℕ) → length (runsTo order parents n) ≡ n
-  unfolding runsTo
-  length-runs zero = refl
-  length-runs (suc n) = simp length-append (omega (arith, length-runs n))
-
   -- What is stored behind the first n runs leaves them.
   runs-set : (m t parent n : ℕ) → n ≤ m → runsTo (set order m t) (set parents m parent) n ≡ runsTo order parents n
   unfolding runsTo
@@ -55,51 +44,9 @@ module _ (order parents : List ℕ) where
   runs-set m t parent (suc n) h =
       rw (runs-set m t parent n (omega arith), getD-set-other parents m n parent 0 (λ e. omega arith), getD-set-other order m n t 0 (λ e. omega arith))
 
-  runs-at : (n : ℕ) → n ≤ 128 → ((k : ℕ) → k < n → getD parents k 0 < 128 → getD parents k 0 < k) → (k : ℕ) → k < n
-      → getD (runsTo order parents n) k [] ≡ getD (runsTo order parents n) (getD parents k 0) [] ++ (getD order k 0 ∷ [])
-  unfolding runsTo
-  runs-at zero h earlier k g = absurd (omega arith)
-  runs-at (suc n) h earlier k g =
-      below-more At n (λ k g. old k g (runs-at n (omega arith) (λ k g. earlier k (omega arith)) k g))
-      (getD-at q new [] [] n (length-runs n) ∙ kept n (omega arith)) k (omega arith)
-    where
-      q : List (List ℕ)
-      q = runsTo order parents n
-
-      new : List ℕ
-      new = getD q (getD parents n 0) [] ++ (getD order n 0 ∷ [])
-
-      At : ℕ → Type 0
-      At k = getD (q ++ (new ∷ [])) k [] ≡ getD (q ++ (new ∷ [])) (getD parents k 0) [] ++ (getD order k 0 ∷ [])
-
-      kept : (k : ℕ) → k < suc n
-          → getD q (getD parents k 0) [] ++ (getD order k 0 ∷ []) ≡ getD (q ++ (new ∷ [])) (getD parents k 0) [] ++ (getD order k 0 ∷ [])
-      kept k g =
-          ap (λ r. r ++ (getD order k 0 ∷ []))
-          (sym (same-place q new (getD parents k 0) (omega (arith, length-runs n)) (λ b. omega (arith, earlier k g b, length-runs n))))
-
-      old : (k : ℕ) → k < n → getD q k [] ≡ getD q (getD parents k 0) [] ++ (getD order k 0 ∷ []) → At k
-      old k g e = List·getD-append q (new ∷ []) [] k (omega (arith, length-runs n)) ∙ e ∙ kept k (omega arith)
-
 module _ {x : Runs} (s : Sound x) where
-  pub sound-few : x .count ≤ 128
-  sound-few = omega (arith, s .counted, count-le 128 (λ u. getD (x .marks) u false))
-
   pub sound-room : (t : ℕ) → t < 128 → getD (x .marks) t false ≡ false → x .count < 128
   sound-room t h e = omega (arith, s .counted, count-less (λ u. getD (x .marks) u false) 128 t h e)
-
-  pub sound-length : length (runsIn x) ≡ x .count
-  unfolding runsIn
-  sound-length = length-runs (x .order) (x .parents) (x .count)
-
-  pub sound-run : (k : ℕ) → k < x .count → getD (runsIn x) k [] ≡ getD (runsIn x) (getD (x .parents) k 0) [] ++ (getD (x .order) k 0 ∷ [])
-  unfolding runsIn
-  sound-run = runs-at (x .order) (x .parents) (x .count) sound-few (s .earlier)
-
-  pub sound-last : (k : ℕ) → k < x .count → last (getD (runsIn x) k []) ≡ getD (x .order) k 0
-  sound-last k h = ap last (sound-run k h) ∙ last-snoc (getD (runsIn x) (getD (x .parents) k 0) []) (getD (x .order) k 0)
-
-  -- ---- a mark more
 
   more-runs : (parent t : ℕ) → x .count < 128 → runsIn (withRun x parent t) ≡ runsIn x ++ ((getD (runsIn x) parent [] ++ (t ∷ [])) ∷ [])
   unfolding runsIn withRun runsTo
@@ -168,11 +115,6 @@ stores-count a = ap length (sym (a .runs)) ∙ sound-length (a .sound)
 -- Before the first run.
 unfoldable pub noRuns : Runs
 noRuns = record { marks = replicate 128 false; count = 0; order = replicate 128 0; parents = replicate 128 0; pairs = 0 }
-
-pub getD-repeat : {A : Type 0} (n k : ℕ) (a : A) → getD (replicate n a) k a ≡ a
-getD-repeat zero k a = refl
-getD-repeat (suc n) zero a = refl
-getD-repeat (suc n) (suc k) a = getD-repeat n k a
 
 sound-none : Sound noRuns
 unfolding noRuns runsIn runsTo
@@ -390,3 +332,12 @@ stored-reached M x a =
     marks =
         tabulated 128 (isMarked (search M .runs)) false (x .marks) (a .sound .marks)
         (λ s _. a .sound .marked s ∙ ap (λ q. isMarked q s) (a .runs))
+
+-- ---- the first run to a bad state
+
+pub stored-trace : (M : System) {x : Runs} → Stores (search M) x
+    → getD (runsIn x) (least (x .count) (λ k. M .bad (getD (x .order) k 0))) [] ≡ traceOf M
+stored-trace M {x} a =
+    ap (λ j. getD (runsIn x) j []) (least-same (sym (sound-length (a .sound))) (λ k h. ap (M .bad) (sym (sound-last (a .sound) k h))))
+    ∙ ap (λ q. getD q (least (length q) (λ k. M .bad (last (getD q k [])))) []) (a .runs)
+    ∙ search-trace M

@@ -5,4 +5,3 @@ pub mod SearchSteps
 pub mod Search
 pub mod Stored
 pub mod Collecting
-pub mod Traced

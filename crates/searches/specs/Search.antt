@@ -2,22 +2,17 @@
 -- number; then each marked state, in the order of marking, is tried once as the first of a pair with every state by number, marked or not. It ends
 -- as soon as every state is marked. Each mark has its run, so the marked states are the last states of the runs. Assumes nothing: these are definitions.
 use Prim.Native.Nat.{ℕ, zero, suc, _+_}
-use mathlib.Core.Bool.{Bool, false, not, cond, _&&_, _||_}
+use mathlib.Core.Bool.{Bool, not, cond, _&&_}
 use mathlib.Core.List.{List, [], _∷_, _++_}
 use lib.Dec.{eqb, ltb}
 use lib.ListN.{length, getD}
 use Rattle.systems.specs.System.{System, last}
+use Rattle.traces.specs.Marked.{isMarked}
 
 -- What has been collected: the runs, in the order in which their last states were marked, and how many pairs have been tried.
 pub record Collection : Type 0 where
   pub runs : List (List ℕ)
   pub pairs : ℕ
-
--- State s is marked: one of the runs ends in it.
-unfoldable pub isMarked : List (List ℕ) → ℕ → Bool
-unfolding last
-isMarked [] s = false
-isMarked (r ∷ q) s = eqb (last r) s || isMarked q s
 
 -- State t behind the run r: where it passes the test and is not marked yet, it is marked, by the longer run.
 unfoldable pub tryState : (ℕ → Bool) → List ℕ → ℕ → List (List ℕ) → List (List ℕ)

@@ -1,29 +1,18 @@
--- How the arrays of a search hold the runs found, and the reached states as a struct. Assumes nothing: these are definitions.
-use Prim.Native.Nat.{ℕ, zero, suc, _+_, _*_, _≤_, _<_}
+-- How the arrays of a search hold what it has collected, and the reached states as a struct. Assumes nothing: these are definitions.
+use Prim.Native.Nat.{ℕ, _+_, _*_, _≤_, _<_}
 use mathlib.Core.Path.{_≡_}
-use mathlib.Core.Bool.{true, false}
-use mathlib.Core.List.{List, [], _∷_, _++_}
+use mathlib.Core.Bool.{true}
+use mathlib.Core.List.{List}
 use lib.ListN.{length, getD, set}
 use Rattle.sets.specs.Tabulated.{tabulate}
 use Rattle.searches.specs.declared.runs.Reached.{Reached}
-use Rattle.searches.specs.declared.runs.Runs.{Runs}
-use Rattle.systems.specs.Count.{count}
+use Rattle.traces.specs.declared.runs.Runs.{Runs}
 use Rattle.systems.specs.System.{System}
-use Rattle.searches.specs.Search.{Collection, isMarked, search}
+use Rattle.traces.specs.Marked.{isMarked}
+use Rattle.traces.specs.Stored.{runsIn, Sound}
+use Rattle.searches.specs.Search.{Collection, search}
 
--- ---- the runs
-
--- The first n runs: each is the run at its parent's place, which is none where there is no such place, and one state more.
-unfoldable pub runsTo : List ℕ → List ℕ → ℕ → List (List ℕ)
-runsTo order parents zero = []
-runsTo order parents (suc n) =
-    let q = runsTo order parents n in
-    q ++ ((getD q (getD parents n 0) [] ++ (getD order n 0 ∷ [])) ∷ [])
-
--- All of them.
-unfoldable pub runsIn : Runs → List (List ℕ)
-unfolding runsTo
-runsIn x = runsTo (x .order) (x .parents) (x .count)
+-- ---- what has been collected
 
 -- What has been collected.
 unfoldable pub collectionIn : Runs → Collection
@@ -41,16 +30,6 @@ withRun x parent t =
       parents = set (x .parents) n parent;
       pairs = x .pairs;
     }
-
--- The marks are those of the runs, the count is how many there are, and a run extends one that was found earlier, or none.
-pub record Sound (x : Runs) : Type 0 where
-  pub marks : length (x .marks) ≡ 128
-  pub order : length (x .order) ≡ 128
-  pub parents : length (x .parents) ≡ 128
-  pub marked : (s : ℕ) → getD (x .marks) s false ≡ isMarked (runsIn x) s
-  pub counted : x .count ≡ count 128 (λ s. getD (x .marks) s false)
-  pub states : (k : ℕ) → k < x .count → getD (x .order) k 0 < 128
-  pub earlier : (k : ℕ) → k < x .count → getD (x .parents) k 0 < 128 → getD (x .parents) k 0 < k
 
 -- x holds the collection c.
 pub record Stores (c : Collection) (x : Runs) : Type 0 where

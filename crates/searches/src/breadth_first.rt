@@ -5,10 +5,11 @@ ghost use mathlib.Core.List.{[]};
 ghost use lib.ListN.{getD};
 ghost use Rattle.searches.specs.Search.{startsBelow, tryRow, search};
 ghost use Rattle.systems.specs.ByTables.{stepBy, startBy, HasRoom, systemBy};
-ghost use Rattle.searches.specs.Stored.{runsIn, collectionIn, Stores, Triable, reachedOf};
+ghost use Rattle.traces.specs.Stored.{runsIn};
+ghost use Rattle.searches.specs.Stored.{collectionIn, Stores, Triable, reachedOf};
 use crate::runs::Reached;
-use crate::runs::Runs;
 use systems::tables::Tables;
+use traces::runs::Runs;
 
 // The start states of the set are marked, by number. The start parts that they meet stand in the row behind those of the states.
 fn find_starts(masks: &[u16], t: Tables, set: u16) -> Runs

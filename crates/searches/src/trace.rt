@@ -1,66 +1,9 @@
 // The trace of a set: the first run that the search finds to a bad state.
 ghost use mathlib.Core.Path.{_≡_};
-ghost use mathlib.Core.List.{[]};
-ghost use lib.ListN.{length, getD};
-ghost use Rattle.systems.specs.Least.{least};
-ghost use Rattle.systems.specs.ByTables.{markAt, HasRoom, systemBy};
-ghost use Rattle.searches.specs.Stored.{runsIn, Sound};
-ghost use Rattle.searches.specs.Traced.{traceWith, traceArray};
-use crate::runs::Runs;
+ghost use Rattle.systems.specs.ByTables.{HasRoom, systemBy};
+ghost use Rattle.traces.specs.Traced.{traceArray};
 use systems::tables::Tables;
-
-// So many states; what follows them is 0. A set that holds has none.
-pub struct Trace {
-    pub length: usize,
-    pub states: [u8; 128],
-}
-
-// The place of the first run to a bad state; the number of runs if there is none.
-fn first_bad(t: Tables, x: Runs) -> usize
-    requires { ⌜ Sound x ⌝ }
-    ensures { λ r. ⌜ r ≡ least (x .count) (λ k. markAt (t .bad) (getD (x .order) k 0)) ⌝ }
-{
-    let mut j = 0;
-    while j < x.count {
-        let s = x.order[j] as usize;
-        if t.bad[s] {
-            return j;
-        }
-        j += 1;
-    }
-    j
-}
-
-// How many states the run at place j has.
-fn run_length(x: Runs, j: usize) -> usize
-    requires { ⌜ Sound x ⌝ }
-    ensures { λ r. ⌜ r ≡ length (getD (runsIn x) j []) ⌝ }
-{
-    let mut n = 0;
-    let mut at = j;
-    while at < x.count {
-        at = x.parents[at] as usize;
-        n += 1;
-    }
-    n
-}
-
-// The run at place j, written from its end, where the parents begin.
-fn run_at(x: Runs, j: usize) -> Trace
-    requires { ⌜ Sound x ⌝ }
-    ensures { λ r. ⌜ r ≡ traceWith (getD (runsIn x) j []) ⌝ }
-{
-    let length = run_length(x, j);
-    let mut states = [0; 128];
-    let mut n = length;
-    let mut at = j;
-    while at < x.count {
-        n -= 1;
-        states[n] = x.order[at];
-        at = x.parents[at] as usize;
-    }
-    Trace { length, states }
-}
+use traces::trace::Trace;
 
 // The trace of a set by the tables; a set that holds has none.
 pub fn trace_of(masks: &[u16], t: Tables, set: u16) -> Trace
@@ -68,5 +11,5 @@ pub fn trace_of(masks: &[u16], t: Tables, set: u16) -> Trace
     ensures { λ r. ⌜ r ≡ traceArray (systemBy (now (masks .entry)) t set) ⌝ }
 {
     let x = crate::breadth_first::explore(masks, t, set);
-    run_at(x, first_bad(t, x))
+    traces::trace::run_at(x, traces::trace::first_bad(t, x))
 }

@@ -24,11 +24,10 @@ use Rattle.sorting.specs.Kinds.{kindsOf}
 use Rattle.calls.specs.declared.answers.ListAnswer.{ListAnswer}
 use Rattle.calls.specs.Answers.{rulesIn, judgeIn, listIn, kindIn, listAnswer, listBytes}
 use Rattle.calls.specs.AsRead.{IsRead}
-use Rattle.codremif.specs.Packing.{listParts}
 use Rattle.calls.specs.Laws.Answers.{rules-le, rules-read, read-model, list-enough}
 use Rattle.calls.specs.Laws.Sizes.{list-le, kind-lt}
 use Rattle.sections.specs.Sections.{setLine, kindLines}
-use Rattle.sections.specs.Decoded.{decoded, AllBelow}
+use Rattle.sections.specs.Decoded.{decoded, setsWritten, AllBelow}
 use Rattle.sections.specs.Known.{SetRead, ListRead}
 use Rattle.sections.specs.Laws.Decoded.{decoded-bytes}
 
@@ -86,14 +85,14 @@ module _ (text : List ℕ) (m : Model) (r : IsRead text m) (which : WhichList) (
   enough : 2 * length (listIn which text) ≤ length lent
   enough = omega (arith, room, list-le which text)
 
-  count : listParts a .amount ≡ length (listIn which text)
-  unfolding listParts
-  count = ap (λ x. listParts x .amount) (said .0 ∙ list-enough text (r .outcome) which lent enough .says)
+  count : setsWritten a ≡ length (listIn which text)
+  unfolding setsWritten
+  count = ap setsWritten (said .0 ∙ list-enough text (r .outcome) which lent enough .says)
 
-  pub count-few : listParts a .amount ≤ 65536
+  pub count-few : setsWritten a ≤ 65536
   count-few = omega (arith, count, list-le which text)
 
-  pub list-held : (end : ℕ) → end ≡ 2 * listParts a .amount → Holding text m (listIn which text) end after
+  pub list-held : (end : ℕ) → end ≡ 2 * setsWritten a → Holding text m (listIn which text) end after
   unfolding overwritten
   list-held end e =
       record {

@@ -20,11 +20,11 @@ use Rattle.models.specs.Changed.{byProperty}
 use Rattle.models.specs.Places.{placesByProperty}
 use Rattle.models.specs.Laws.Written.{described-properties}
 use Rattle.models.specs.Laws.Changed.{described-by-property}
-use Rattle.searches.specs.declared.trace.Trace.{Trace}
+use Rattle.traces.specs.declared.trace.Trace.{Trace}
 use Rattle.systems.specs.System.{System}
 use Rattle.systems.specs.Verdict.{holds, traceOf}
-use Rattle.searches.specs.Traced.{traceArray}
-use Rattle.searches.specs.Laws.Traced.{trace-holds, trace-states}
+use Rattle.traces.specs.Traced.{traceArray}
+use Rattle.traces.specs.Laws.Traced.{trace-holds, trace-states}
 use Rattle.semantics.specs.Meaning.{systemOf}
 use Rattle.semantics.specs.TablesOf.{Few}
 use Rattle.calls.specs.Answers.{rulesIn, textOutcome}

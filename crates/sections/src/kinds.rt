@@ -15,7 +15,7 @@ pub fn kind_lines(text: &[u8], m: Model, p: Place, page: &mut [u8]) -> Place
     ensures { λ r. ⌜
         pageOf r (now (page .exit)) ≡ put (kindLines (modelIn (now (text .entry))) (judgeIn (now (text .entry)))) (pageOf p (now (page .entry))) ⌝ }
 {
-    let kinds = analysis::kinds::kinds(text, m);
+    let kinds = finding::kinds::kinds(text, m);
     let q = crate::names::set_line(text, m, b"must=", RuleSet(kinds.must), p, page);
     let s = crate::names::set_line(text, m, b"may=", RuleSet(kinds.may), q, page);
     crate::names::set_line(text, m, b"irr=", RuleSet(kinds.irrelevant), s, page)

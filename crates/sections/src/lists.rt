@@ -3,8 +3,8 @@ ghost use mathlib.Core.Path.{_≡_};
 ghost use Rattle.models.specs.Written.{modelIn};
 ghost use Rattle.calls.specs.Answers.{listIn};
 ghost use Rattle.calls.specs.AsRead.{IsRead};
-ghost use Rattle.codremif.specs.Packing.{listParts};
 ghost use Rattle.pages.specs.Page.{pageOf, put};
+ghost use Rattle.sections.specs.Decoded.{setsWritten};
 ghost use Rattle.sections.specs.Sections.{listLines};
 use calls::answers::ListAnswer;
 use models::model::Model;
@@ -12,7 +12,7 @@ use pages::page::Place;
 use sorting::which::WhichList;
 
 fn counted(answer: ListAnswer) -> usize
-    ensures { λ r. ⌜ r ≡ listParts answer .amount ⌝ }
+    ensures { λ r. ⌜ r ≡ setsWritten answer ⌝ }
 {
     match answer {
         ListAnswer::Refused(number, line) => 0,

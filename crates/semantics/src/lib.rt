@@ -2,4 +2,4 @@
 mod masks;
 mod starts;
 pub mod tables;
-mod values;
+pub mod values;

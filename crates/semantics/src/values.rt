@@ -15,7 +15,7 @@ pub(crate) fn word_of(text: &[u8], place: usize, s: usize, block: usize) -> u64
 }
 
 // Whether two states meet the expression at a place of the text: one bit of its word.
-pub(crate) fn is_met(text: &[u8], place: usize, s: usize, t: usize) -> bool
+pub fn is_met(text: &[u8], place: usize, s: usize, t: usize) -> bool
     ensures { λ r. ⌜ r ≡ meets (now (text .entry)) place s t ⌝ }
 {
     let word = word_of(text, place, s, t / 64);

@@ -1,6 +1,7 @@
 // A set of rules as a number: the first rule weighs 1, the next 2, and so on. No model has more than 16 rules.
 ghost use mathlib.Core.Path.{_≡_};
-ghost use Prim.Native.Nat.{_^_, _<_, _≤_};
+ghost use Prim.Native.Nat.{_-_, _^_, _<_, _≤_};
+ghost use lib.Bits.{bitAnd};
 ghost use lib.Count.{ones, trailingZeros};
 ghost use Rattle.sets.specs.Bit.{has, full};
 ghost use Rattle.sets.specs.Sets.{without, with};
@@ -13,6 +14,13 @@ pub fn set_count(rules: usize) -> usize
     ensures { λ r. ⌜ r ≡ 2 ^ rules ⌝ }
 {
     1 << rules
+}
+
+// The rules of one set that another lacks. An operation of its own, so that a caller writes no operator that asks for a fact.
+pub fn less(rules: u16, gone: u16) -> u16
+    ensures { λ r. ⌜ r ≡ rules - bitAnd rules gone ⌝ }
+{
+    rules - (rules & gone)
 }
 
 impl RuleSet {

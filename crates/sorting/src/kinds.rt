@@ -1,8 +1,6 @@
 // Which rules the cores rely on, off the table that marks the cores: MUST (in every core), MAY (in some core but not in MUST) and the irrelevant
 // rules (in no core).
 ghost use mathlib.Core.Path.{_≡_};
-ghost use Prim.Native.Nat.{_-_};
-ghost use lib.Bits.{bitAnd};
 ghost use Rattle.sets.specs.Lists.{listOf, common};
 ghost use Rattle.sets.specs.Kinds.{together};
 ghost use Rattle.marks.specs.Marks.{marked, Room};
@@ -57,13 +55,6 @@ fn common(table: &[u64], rules: usize) -> u16
     all
 }
 
-// The rules of one set that another lacks.
-fn less(rules: u16, gone: u16) -> u16
-    ensures { λ r. ⌜ r ≡ rules - bitAnd rules gone ⌝ }
-{
-    rules - (rules & gone)
-}
-
 // The kinds of so many rules, where the cores are marked.
 pub fn kinds_of(table: &[u64], rules: usize) -> Kinds
     requires { ⌜ Room rules (now table) ⌝ }
@@ -73,7 +64,7 @@ pub fn kinds_of(table: &[u64], rules: usize) -> Kinds
     let must = common(table, rules);
     Kinds {
         must,
-        may: less(some, must),
-        irrelevant: less(RuleSet::full(rules).0, some),
+        may: sets::ruleset::less(some, must),
+        irrelevant: sets::ruleset::less(RuleSet::full(rules).0, some),
     }
 }

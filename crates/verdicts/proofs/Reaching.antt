@@ -2,12 +2,11 @@
 -- is bad or no row is left. From the laws of walks and the meaning of the verdict. Assumes nothing.
 use Prim.Native.Nat.{ℕ, _+_, _-_, _*_, _%_, _≤_, _<_}
 use mathlib.Core.Path.{_≡_, refl, sym, ap, subst, _∙_}
-use mathlib.Core.Logic.{_⊎_, inl, inr, ⊎-elim}
+use mathlib.Core.Logic.{⊎-elim}
 use mathlib.Core.Bool.{Bool, true, false, not, _&&_, _||_, or-false, and-eq-true-iff, true≢false}
 use mathlib.Core.List.{List}
 use mathlib.Mathlib.Data.Bool.Basic.{or-inl, or-inr, eq-false-of-not-eq-true}
 use native.Mathlib.Decide.{ℕ-discrete}
-use native.Mathlib.Nat.{eq-or-lt-of-le}
 use native.Mathlib.Omega.{arith}
 use borrow.Author.Tests.{eqb-true, eq-eqb, ne-eqb, not-true, not-false}
 use mir.Val.{boolByte}
@@ -15,8 +14,8 @@ use lib.Bits.{bitAnd, bitOr}
 use lib.Dec.{eqb}
 use lib.ListN.{length, getD, set, take, drop, length-set, length-take, length-drop}
 use lib.Seq.{getD-set-same, getD-set-other, getD-take, getD-drop}
-use Rattle.sets.specs.Laws.Choice.{alike}
-use Rattle.systems.specs.Least.{least, any}
+use Rattle.sets.specs.Laws.Choice.{either}
+use Rattle.systems.specs.Least.{least}
 use Rattle.systems.specs.Laws.Least.{any-intro, any-elim}
 use Rattle.systems.specs.Count.{count}
 use Rattle.systems.specs.Laws.Count.{count-le, count-same, count-more}
@@ -84,33 +83,11 @@ bits-say false true false = record { walk = refl; hit = refl; bad = refl; left =
 bits-say false false true = record { walk = refl; hit = refl; bad = refl; left = refl; walked = refl }
 bits-say false false false = record { walk = refl; hit = refl; bad = refl; left = refl; walked = refl }
 
-either : (a b : Bool) → (a || b) ≡ true → (a ≡ true) ⊎ (b ≡ true)
-either true b e = inl refl
-either false b e = inr e
-
 -- Of two that are not both true, the other one.
 other : (a b : Bool) → (a && b) ≡ false → a ≡ true → b ≡ false
 other a b e f = sym (ap (λ a. a && b) f) ∙ e
 
 -- ---- loops over the marks
-
--- One number more.
-pub any-next : (n : ℕ) (p : ℕ → Bool) → (any n p || p n) ≡ any (n + 1) p
-any-next n p = alike (any n p || p n) (any (n + 1) p) (λ e. ⊎-elim old new (either (any n p) (p n) e)) back
-  where
-    old : any n p ≡ true → any (n + 1) p ≡ true
-    old e = let (h, f) = any-elim n p e in any-intro (n + 1) p (least n p) (omega arith) f
-
-    new : p n ≡ true → any (n + 1) p ≡ true
-    new e = any-intro (n + 1) p n (omega arith) e
-
-    back : any (n + 1) p ≡ true → (any n p || p n) ≡ true
-    back e =
-        let (h, f) = any-elim (n + 1) p e in
-        ⊎-elim
-        (λ i. or-inr (any n p) (p n) (ap p (sym i) ∙ f))
-        (λ i. or-inl (any n p) (p n) (any-intro n p (least (n + 1) p) i f))
-        (eq-or-lt-of-le {n = least (n + 1) p} {m = n} (omega arith))
 
 -- The entries below t are those of f, and the others are as they came.
 pub record Passed (f : ℕ → ℕ) (before after : List ℕ) (t : ℕ) : Type 0 where

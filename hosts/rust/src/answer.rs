@@ -18,13 +18,15 @@ pub enum Reason {
     TooFewBytes,
     OddList,
     NotAnOrder,
+    NotALog,
+    InitUnmet,
     /// A number that this wrapper does not know: a later library may have more of them. The call is refused all the same.
     Other(u8),
 }
 
 impl Reason {
     /// The reasons that have a name, in the order of their numbers, which begin with 1.
-    pub const ALL: [Reason; 13] = [
+    pub const ALL: [Reason; 15] = [
         Reason::LineDue,
         Reason::Count,
         Reason::Name,
@@ -38,6 +40,8 @@ impl Reason {
         Reason::TooFewBytes,
         Reason::OddList,
         Reason::NotAnOrder,
+        Reason::NotALog,
+        Reason::InitUnmet,
     ];
 
     pub fn number(self) -> u8 {
@@ -72,6 +76,8 @@ impl Reason {
             Reason::NotAnOrder => {
                 "The order is not R bytes that have each place from 0 to R - 1 exactly once (line 0)."
             }
+            Reason::NotALog => "The log is empty or has a state of 2^N or more (line 0).",
+            Reason::InitUnmet => "The log's first state does not meet `init` (line 0).",
             Reason::Other(_) => "",
         }
     }
@@ -123,6 +129,33 @@ pub enum OneCore {
     Found { core: u16, judgements: usize },
     /// The full set is broken, so that there is no core.
     NoCore { judgements: usize },
+}
+
+/// What is said of a log of states.
+#[derive(Clone, Copy, Debug, PartialEq, Eq)]
+pub struct Blame {
+    /// The rules that are broken anywhere in the log, as a set.
+    pub broken: u16,
+    pub breach: Breach,
+}
+
+/// Where a log breaks a property for the first time.
+#[derive(Clone, Copy, Debug, PartialEq, Eq)]
+pub enum Breach {
+    /// In the state at this place; the first state has place 0.
+    At(usize),
+    /// In no state of the log, which has so many.
+    Nowhere { length: usize },
+}
+
+impl Breach {
+    /// The place of the first state that breaks a property, or the log's length if none does.
+    pub fn place(self) -> usize {
+        match self {
+            Breach::At(place) => place,
+            Breach::Nowhere { length } => length,
+        }
+    }
 }
 
 /// What is said of a set that is looked up in a core list and a cut list.

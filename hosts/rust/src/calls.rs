@@ -1,6 +1,6 @@
 //! The calls of libcodremif.a.
 
-use crate::answer::{OneCore, Reached, Reason, Refused, Said, Verdict};
+use crate::answer::{Blame, Breach, OneCore, Reached, Reason, Refused, Said, Verdict};
 
 /// The declarations as a C host has them.
 mod declared {
@@ -26,6 +26,8 @@ mod declared {
         pub fn codremif_irr(text: *const u8, text_len: usize) -> u64;
         pub fn codremif_one_core(text: *const u8, text_len: usize, order: *const u8, order_len: usize)
             -> u64;
+        pub fn codremif_blame(text: *const u8, text_len: usize, log: *const u8, log_len: usize) -> u64;
+        pub fn codremif_breach(text: *const u8, text_len: usize, log: *const u8, log_len: usize) -> u64;
         pub fn codremif_suffices(
             set: u32,
             cores: *const u8,
@@ -126,6 +128,27 @@ pub fn one_core(text: &[u8], order: &[u8]) -> Result<OneCore, Refused> {
     })
 }
 
+/// Gives the rules that are broken anywhere in `log`, and where it breaks a property for the first time. `log` has a state for
+/// each second, one byte each. Neither slice is written to. One call gives the rules and another the place, so both are made.
+pub fn blame(text: &[u8], log: &[u8]) -> Result<Blame, Refused> {
+    let (broken, place) = (broken_rules(text, log), breach_place(text, log));
+    let said = blame_in(broken, place, log.len());
+    said.unwrap_or_else(|| panic!("of {} states one call says {broken:?}, the other {place:?}", log.len()))
+}
+
+/// Gives the rules that are broken anywhere in `log`, as a set, and whether some state of it breaks a property.
+pub fn broken_rules(text: &[u8], log: &[u8]) -> Result<(u16, bool), Refused> {
+    // SAFETY: as in `one_core`.
+    broken_in(unsafe { declared::codremif_blame(text.as_ptr(), text.len(), log.as_ptr(), log.len()) })
+}
+
+/// Gives the place of the first state of `log` that breaks a property, or the log's length if none does; none where
+/// `broken_rules` is refused.
+pub fn breach_place(text: &[u8], log: &[u8]) -> Option<usize> {
+    // SAFETY: as in `one_core`.
+    place_of(unsafe { declared::codremif_breach(text.as_ptr(), text.len(), log.as_ptr(), log.len()) })
+}
+
 /// Looks `set` up in two lists, two bytes for each set: says whether a listed core is inside it or else a listed cut is
 /// apart from it. No text is read.
 pub fn suffices(set: u32, cores: &[u8], cuts: &[u8]) -> Result<Said, Refused> {
@@ -137,9 +160,9 @@ pub fn suffices(set: u32, cores: &[u8], cuts: &[u8]) -> Result<Said, Refused> {
 /// refused.
 pub fn witness_place(set: u32, cores: &[u8], cuts: &[u8]) -> Option<usize> {
     // SAFETY: as in `suffices`.
-    let place =
-        unsafe { declared::codremif_witness(set, cores.as_ptr(), cores.len(), cuts.as_ptr(), cuts.len()) };
-    (place != u64::MAX).then(|| usize::try_from(place).expect("a place in memory"))
+    place_of(unsafe {
+        declared::codremif_witness(set, cores.as_ptr(), cores.len(), cuts.as_ptr(), cuts.len())
+    })
 }
 
 /// Gives the witness: the first listed core inside `set`, or else the first listed cut apart from it, as two bytes of the
@@ -173,8 +196,8 @@ struct Accepted {
 }
 
 /// Takes apart: the number, plus 256 times the line, plus 65,536 times the length, count, set or pairs, plus 2^40 for a
-/// verdict that holds, plus 2^41 times the judgements. It panics where a part is not 0 that docs/FORMAT.md says is 0, so that
-/// no test can miss it; a number that it does not know is a refusal like the others.
+/// verdict that holds or a log without a breach, plus 2^41 times the judgements. It panics where a part is not 0 that
+/// docs/FORMAT.md says is 0, so that no test can miss it; a number that it does not know is a refusal like the others.
 fn unpack(packed: u64) -> Result<Accepted, Refused> {
     let number = (packed % 256) as u8;
     let line = (packed / 256 % 256) as u8;
@@ -204,6 +227,33 @@ fn one_core_in(packed: u64) -> Result<OneCore, Refused> {
     }
     assert_eq!(core, 0, "no core, and yet a set: {packed:#x}");
     Ok(OneCore::NoCore { judgements })
+}
+
+/// For the call that gives the broken rules of a log: 2^40 says that no state of it breaks a property.
+fn broken_in(packed: u64) -> Result<(u16, bool), Refused> {
+    let accepted = uncounted(packed)?;
+    Ok((set_of(accepted.amount, packed), !accepted.holds))
+}
+
+/// What both calls say of a log with so many states; none where they contradict each other. Both refuse it or neither does, and
+/// the place is one of the log exactly where some state breaks a property.
+fn blame_in(
+    broken: Result<(u16, bool), Refused>,
+    place: Option<usize>,
+    length: usize,
+) -> Option<Result<Blame, Refused>> {
+    let (broken, breach) = match (broken, place) {
+        (Err(refused), None) => return Some(Err(refused)),
+        (Ok((broken, true)), Some(place)) if place < length => (broken, Breach::At(place)),
+        (Ok((broken, false)), Some(place)) if place == length => (broken, Breach::Nowhere { length }),
+        _ => return None,
+    };
+    Some(Ok(Blame { broken, breach }))
+}
+
+/// For the calls that give a place; 2^64 - 1 stands for none.
+fn place_of(place: u64) -> Option<usize> {
+    (place != u64::MAX).then(|| usize::try_from(place).expect("a place in memory"))
 }
 
 /// For the call that looks a set up.
@@ -247,7 +297,7 @@ mod tests {
         for number in 1..=255_u8 {
             let refused = unpack(u64::from(number) + 256 * 7).expect_err("a refusal");
             assert_eq!((refused.reason.number(), refused.line), (number, 7));
-            assert_eq!(matches!(refused.reason, Reason::Other(_)), number > 13);
+            assert_eq!(matches!(refused.reason, Reason::Other(_)), number > 15);
             assert!(refused.to_string().starts_with(&format!("refused by number {number}, line 7: ")));
         }
         assert_eq!(unpack(5 * 65_536), Ok(Accepted { amount: 5, holds: false, judgements: 0 }));
@@ -274,6 +324,46 @@ mod tests {
         assert_eq!(one_core_in(packed(65_535, 1, 17)), Ok(largest));
         assert_eq!(one_core_in(13), Err(Refused::new(Reason::NotAnOrder, 0)));
         assert_eq!(one_core_in(9 + 256 * 8), Err(Refused::new(Reason::BytesFollow, 8)));
+    }
+
+    #[test]
+    fn what_is_said_of_a_log() {
+        assert_eq!(broken_in(65_536 * 6), Ok((6, true)));
+        assert_eq!(broken_in(65_536 * 65_535 + (1 << 40)), Ok((65_535, false)));
+        assert_eq!((broken_in(0), broken_in(1 << 40)), (Ok((0, true)), Ok((0, false))));
+        assert_eq!(broken_in(14), Err(Refused::new(Reason::NotALog, 0)));
+        assert_eq!(broken_in(15), Err(Refused::new(Reason::InitUnmet, 0)));
+        assert_eq!((place_of(0), place_of(7), place_of(u64::MAX)), (Some(0), Some(7), None));
+    }
+
+    /// Of a log of three states.
+    #[test]
+    fn what_both_calls_say_of_a_log() {
+        let refused = Err(Refused::new(Reason::NotALog, 0));
+        let (at_2, nowhere) = (Breach::At(2), Breach::Nowhere { length: 3 });
+        assert_eq!((at_2.place(), nowhere.place()), (2, 3));
+        assert_eq!(blame_in(refused, None, 3), Some(Err(Refused::new(Reason::NotALog, 0))));
+        assert_eq!(blame_in(Ok((6, true)), Some(2), 3), Some(Ok(Blame { broken: 6, breach: at_2 })));
+        assert_eq!(blame_in(Ok((6, false)), Some(3), 3), Some(Ok(Blame { broken: 6, breach: nowhere })));
+        for place in [Some(0), Some(3)] {
+            assert_eq!(blame_in(refused, place, 3), None, "{place:?}");
+        }
+        for (breach, place) in [
+            (true, None),
+            (false, None),
+            (true, Some(3)),
+            (true, Some(4)),
+            (false, Some(2)),
+            (false, Some(4)),
+        ] {
+            assert_eq!(blame_in(Ok((6, breach)), place, 3), None, "{breach}, {place:?}");
+        }
+    }
+
+    #[test]
+    #[should_panic(expected = "no set of 16 rules")]
+    fn a_seventeenth_rule_that_is_broken() {
+        let _ = broken_in(65_536 * 65_536);
     }
 
     #[test]

@@ -3,11 +3,12 @@
 use std::collections::BTreeMap;
 use std::fmt::Debug;
 
-use crate::answer::{OneCore, Reached, Reason, Refused, Said, Verdict};
+use crate::answer::{Blame, OneCore, Reached, Reason, Refused, Said, Verdict};
 use crate::calls;
 use crate::handed::{Guarded, Handed};
 use crate::lent::{Fill, Lent};
 use crate::plain::answers::{self, Answers};
+use crate::plain::blame::blame;
 use crate::plain::lookup;
 use crate::plain::one_core::one_core;
 use crate::plain::system::TransitionSystem;
@@ -26,6 +27,18 @@ impl Asked {
         let text = written.text();
         let system = TransitionSystem::of(&text::read(&text).expect("an accepted model"));
         Asked { text, system }
+    }
+}
+
+/// Demands that each of these was counted so often at least.
+pub fn demand_each<K: Ord + Debug>(
+    counted: &BTreeMap<K, usize>,
+    keys: impl IntoIterator<Item = K>,
+    least: usize,
+) {
+    for key in keys {
+        let times = counted.get(&key).copied().unwrap_or(0);
+        assert!(times >= least, "{key:?} came up {times} times only; {counted:?}");
     }
 }
 
@@ -155,6 +168,25 @@ impl Tally {
         answered
     }
 
+    /// Blame from a log: both sides must say the same, and no byte of the text, of the log or of their guards may change. The
+    /// text is given as the plain search reads it, as in `reached`.
+    pub fn blame(
+        &mut self,
+        text: &[u8],
+        plain: Result<&TransitionSystem, Refused>,
+        log: &Guarded,
+        fill: Fill,
+    ) -> Result<Blame, Refused> {
+        let guarded = Guarded::new(text, fill);
+        let answered = calls::blame(guarded.bytes(), log.bytes());
+        let about = || format!("log {}, {fill:?}; {}", show_list(log.bytes()), show(text));
+        let expected = plain.and_then(|system| blame(system, log.bytes()));
+        assert_eq!(answered, expected, "library left, plain search right; {}", about());
+        assert!(guarded.is_untouched() && log.is_untouched(), "a byte has changed; {}", about());
+        self.count(&answered);
+        answered
+    }
+
     /// A set that is looked up: both sides must say the same of it and give the same two bytes of the same list as the
     /// witness, and no byte of the lists or their guards may change.
     pub fn look_up(&mut self, set: u32, lists: &Handed) -> Result<Said, Refused> {
@@ -178,9 +210,17 @@ impl Tally {
     }
 
     /// A text that the plain reader accepts, in all calls: these sets, the lists and the kinds of rules, each with just as many
-    /// bytes lent as it needs, with more of them, and with one too few where it needs some; and the order, first rule first and
-    /// last rule first, and with a byte too many.
-    pub fn accepted_text(&mut self, text: &[u8], plain: &Answers, sets: &[u16], order: &[u8], fill: Fill) {
+    /// bytes lent as it needs, with more of them, and with one too few where it needs some; the order, first rule first and
+    /// last rule first, and with a byte too many; and the log, without its last state, without any, and with one too large.
+    pub fn accepted_text(
+        &mut self,
+        text: &[u8],
+        plain: &Answers,
+        sets: &[u16],
+        order: &[u8],
+        log: &[u8],
+        fill: Fill,
+    ) {
         let system = &plain.system;
         for set in sets {
             let states_of_trace = trace(system, *set).map_or(0, |run| run.len());
@@ -202,11 +242,16 @@ impl Tally {
         for order in [order, &the_other_way, &[order, &[0]].concat()] {
             let _ = self.one_core(text, Ok(system), &Guarded::new(order, fill), fill);
         }
+        let too_large = [log, &[system.states as u8]].concat();
+        for log in [log, &log[..log.len() - 1], &[], &too_large] {
+            let _ = self.blame(text, Ok(system), &Guarded::new(log, fill), fill);
+        }
     }
 
     /// A text that the plain reader refuses: all calls must refuse it alike. Those that are given a set are asked with set 0,
-    /// with a set too large for any model and with no byte lent, because the text comes before 10 and 11; and the one that is
-    /// given an order with bytes that are one, and that are none for any model, because it comes before 13, too.
+    /// with a set too large for any model and with no byte lent, because the text comes before 10 and 11; the one that is given
+    /// an order with bytes that are one, and that are none for any model, because it comes before 13, too; and those that are
+    /// given a log with states, with none and with one too large for any model, because it comes before 14 and 15.
     pub fn refused_text(&mut self, text: &[u8], expected: Refused, fill: Fill) {
         for (set, length) in [(0, 128), (0, 0), (u32::MAX, 0), (1 << 16, 16)] {
             let library = |lent: &mut [u8]| calls::judge(text, set, lent);
@@ -215,6 +260,9 @@ impl Tally {
         }
         for order in [&[][..], &[0], &[2, 0, 1], &[0, 0, 255]] {
             let _ = self.one_core(text, Err(expected), &Guarded::new(order, fill), fill);
+        }
+        for log in [&[][..], &[0], &[1, 0, 1], &[0, 128]] {
+            let _ = self.blame(text, Err(expected), &Guarded::new(log, fill), fill);
         }
         for length in [0, 64] {
             let _ = self.ask(text, length, fill, |lent| calls::cores(text, lent), |_| Err(expected));
@@ -243,7 +291,7 @@ pub fn place_in(list: &[u8], witness: &[u8]) -> Option<usize> {
     inside
 }
 
-/// The bytes of a list or an order, no more than some of the first.
+/// The bytes of a list, an order or a log, no more than some of the first.
 fn show_list(list: &[u8]) -> String {
     format!("{} bytes, {:?}", list.len(), &list[..list.len().min(100)])
 }

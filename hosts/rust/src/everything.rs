@@ -1,10 +1,10 @@
 //! What the library says of a text that it accepts, with enough bytes lent, so that it can be held to what it says of another.
 
-use crate::answer::{OneCore, Reached, Verdict};
+use crate::answer::{Blame, OneCore, Reached, Refused, Verdict};
 use crate::calls;
 
-/// Of some sets their traces and the states that they reach, of an order the core that it finds, and all that is asked without a
-/// set or an order.
+/// Of some sets their traces and the states that they reach, of an order the core that it finds, of a log what is to blame, and
+/// all that is asked without any of them.
 #[derive(Debug, PartialEq, Eq)]
 pub struct Everything {
     traces: Vec<Option<Vec<u8>>>,
@@ -15,10 +15,12 @@ pub struct Everything {
     may: u16,
     irrelevant: u16,
     one_core: OneCore,
+    /// Refused too where no state of the model can begin a log.
+    blame: Result<Blame, Refused>,
 }
 
 impl Everything {
-    pub fn of(text: &[u8], sets: &[u16], order: &[u8]) -> Everything {
+    pub fn of(text: &[u8], sets: &[u16], order: &[u8], log: &[u8]) -> Everything {
         Everything {
             traces: sets.iter().map(|set| trace(text, *set)).collect(),
             reached: sets.iter().map(|set| reached(text, *set)).collect(),
@@ -28,6 +30,7 @@ impl Everything {
             may: calls::may(text).expect("an accepted model"),
             irrelevant: calls::irrelevant(text).expect("an accepted model"),
             one_core: calls::one_core(text, order).expect("an accepted model"),
+            blame: calls::blame(text, log),
         }
     }
 }

@@ -11,6 +11,7 @@ use codremif_host::compare::{show, Tally};
 use codremif_host::lent::{Fill, Lent};
 use codremif_host::plain::answers::Answers;
 use codremif_host::plain::expression::{self, Place};
+use codremif_host::plain::system::TransitionSystem;
 use codremif_host::plain::text::{self, Model};
 use codremif_host::random::damage::damaged;
 use codremif_host::random::generator::seed_for;
@@ -31,7 +32,7 @@ const STARTS: &[u8] =
 #[derive(Debug, Default)]
 struct Seen {
     texts: usize,
-    by_number: [usize; 14],
+    by_number: [usize; 16],
     /// Number 9, by its line.
     bytes_follow: [usize; 26],
     faults: BTreeMap<Fault, usize>,
@@ -266,8 +267,8 @@ fn compare_text(seen: &mut Seen, text: &[u8], fills: &[Fill]) {
     }
 }
 
-/// A text still accepted after its damage. A set too large, or bytes that are no order, tell at once that the library accepts
-/// it too; where the model is small, everything else is compared as well.
+/// A text still accepted after its damage. A set too large, or bytes that are no order or no log, tell at once that the library
+/// accepts it too; where the model is small, everything else is compared as well.
 fn compare_accepted(seen: &mut Seen, text: &[u8], model: &Model, fills: &[Fill]) {
     let too_large = Refused::new(Reason::NoSuchSet, 0);
     for fill in fills {
@@ -283,17 +284,39 @@ fn compare_accepted(seen: &mut Seen, text: &[u8], model: &Model, fills: &[Fill])
         assert_eq!(calls::one_core(text, order), Err(not_an_order), "{}", show(text));
     }
     seen.note(not_an_order);
+    compare_refused_logs(seen, text, model);
     if model.bits <= 4 && model.rules.len() <= 6 {
         compare_in_full(seen, text, fills);
+    }
+}
+
+/// By 14 for every model, and by 15 where some state does not meet `init`.
+fn compare_refused_logs(seen: &mut Seen, text: &[u8], model: &Model) {
+    let not_a_log = Refused::new(Reason::NotALog, 0);
+    for log in [&[][..], &[255], &[0, 1 << model.bits]] {
+        assert_eq!(calls::blame(text, log), Err(not_a_log), "log {log:?}; {}", show(text));
+    }
+    seen.note(not_a_log);
+    if let Some(state) = (0..1 << model.bits).find(|state| !model.init.value(*state, 0)) {
+        let init_unmet = Refused::new(Reason::InitUnmet, 0);
+        assert_eq!(calls::blame(text, &[state as u8, 0]), Err(init_unmet), "state {state}; {}", show(text));
+        seen.note(init_unmet);
     }
 }
 
 fn compare_in_full(seen: &mut Seen, text: &[u8], fills: &[Fill]) {
     let plain = Answers::of(text).expect("accepted before");
     let first_to_last: Vec<u8> = (0..plain.system.rules as u8).collect();
+    let log = every_state(&plain.system);
     seen.in_full.note(plain.system.breaking.len());
     for fill in fills {
         let sets = [0, plain.system.full_set()];
-        seen.tally.accepted_text(text, &plain, &sets, &first_to_last, *fill);
+        seen.tally.accepted_text(text, &plain, &sets, &first_to_last, &log, *fill);
     }
+}
+
+/// A log of every state by number, behind one that meets `init` if any does.
+fn every_state(system: &TransitionSystem) -> Vec<u8> {
+    let first = (0..system.states).find(|state| system.init[*state]).unwrap_or(0);
+    [first].into_iter().chain(0..system.states).map(|state| state as u8).collect()
 }

@@ -1,13 +1,14 @@
-//! Every example at the edges that the request lists, and examples of several properties, of reached states, of one core and
-//! of start parts worked out by hand, asked of the library and of the plain search.
+//! Every example at the edges that the request lists, and examples of several properties, of reached states, of one core, of
+//! start parts and of logs worked out by hand, asked of the library and of the plain search.
 
 #![deny(warnings)]
 
-use codremif_host::answer::{OneCore, Reached, Reason, Refused, Said, Verdict};
+use codremif_host::answer::{Blame, Breach, OneCore, Reached, Reason, Refused, Said, Verdict};
 use codremif_host::compare::{place_in, show, Tally};
 use codremif_host::handed::{Guarded, Handed};
 use codremif_host::lent::Fill;
 use codremif_host::plain::answers::{self, Answers};
+use codremif_host::plain::blame::blame;
 use codremif_host::plain::lookup;
 use codremif_host::plain::one_core::{one_core, order_for};
 use codremif_host::plain::trace::trace;
@@ -82,6 +83,32 @@ fn expect_no_core(text: &str, order: &[u8]) {
 
 fn expect_not_an_order(text: &str, bytes: &[u8]) {
     expect_one_core(text, bytes, Err(Refused::new(Reason::NotAnOrder, 0)));
+}
+
+/// What is said of a log, by the plain search and by the library.
+fn expect_blame(text: &str, log: &[u8], expected: Result<Blame, Refused>) {
+    let text = text.as_bytes();
+    let system = Answers::of(text).expect("an accepted model").system;
+    let about = format!("log {log:?}; {}", show(text));
+    assert_eq!(blame(&system, log), expected, "plain search; {about}");
+    for fill in Fill::ALL {
+        let guarded = Guarded::new(log, fill);
+        assert_eq!(Tally::default().blame(text, Ok(&system), &guarded, fill), expected, "library; {about}");
+    }
+}
+
+/// These rules are broken, and the state at this place is the first that breaks a property.
+fn expect_breach(text: &str, log: &[u8], broken: u16, place: usize) {
+    expect_blame(text, log, Ok(Blame { broken, breach: Breach::At(place) }));
+}
+
+/// These rules are broken, and no state breaks a property.
+fn expect_no_breach(text: &str, log: &[u8], broken: u16) {
+    expect_blame(text, log, Ok(Blame { broken, breach: Breach::Nowhere { length: log.len() } }));
+}
+
+fn expect_log_refused(text: &str, log: &[u8], reason: Reason) {
+    expect_blame(text, log, Err(Refused::new(reason, 0)));
 }
 
 /// MUST, MAY and the irrelevant rules, each a set.
@@ -371,6 +398,139 @@ fn a_refused_text_before_an_order() {
             Err(Refused::new(Reason::NameTwice, 7)),
             "{order:?}"
         );
+    }
+}
+
+/// Station B comes to rest while the unit rings: `ra` is kept, `rb` and `vote` are not. They are a cut, and share `vote` with the
+/// one core of Tremor and `rb` with the other.
+#[test]
+fn tremor_with_a_log() {
+    expect_breach(TREMOR, &[0, 1, 3, 7, 5, 1], 6, 4);
+    expect_breach(TREMOR, &[0, 1, 3, 7, 5], 6, 4);
+    expect_no_breach(TREMOR, &[0, 1, 3, 7], 0);
+    expect_breach(TREMOR, &[0, 6], 5, 1);
+    expect_breach(TREMOR, &[0, 3, 4], 7, 2);
+    // A rule that is broken after the breach is broken too.
+    expect_breach(TREMOR, &[0, 5, 6, 3], 7, 1);
+    expect_breach(TREMOR, &[0, 5, 5, 0], 6, 1);
+    for log in [&[0][..], &[3], &[0, 0], &[0, 7], &[1, 2], &[2, 7, 7, 0], &[3, 3, 3, 3, 3]] {
+        expect_no_breach(TREMOR, log, 0);
+    }
+}
+
+/// `keep` is broken in the steps from 0 to 1 and from 1 to 2, though no bad state has come by the first; `need` from 0 to 2.
+#[test]
+fn rules_broken_before_and_without_a_breach() {
+    expect_no_breach(LATCH, &[0, 1], 1);
+    expect_no_breach(LATCH, &[0, 1, 0], 1);
+    expect_no_breach(LATCH, &[0, 0], 0);
+    expect_breach(LATCH, &[0, 1, 2], 1, 2);
+    expect_breach(LATCH, &[0, 1, 3, 0], 1, 2);
+    expect_breach(LATCH, &[0, 2], 2, 1);
+    expect_breach(LATCH, &[0, 2, 2, 3], 3, 1);
+    // A rule that no step meets, and none of which anything is asked in a log of one state.
+    expect_no_breach(&one_bit("!a", "!a", "0"), &[0], 0);
+    expect_no_breach(&one_bit("!a", "!a", "0"), &[0, 0], 1);
+    expect_breach(&one_bit("!a", "!a", "0"), &[0, 1, 0], 1, 1);
+}
+
+/// What the full set allows breaks the property: there is no core, and the cut is set 0.
+#[test]
+fn a_breach_without_a_broken_rule() {
+    let stale = "vars=4\nrules=2\ninit=&!a&!b&!c!d\nprop=>c&ab\nrule=mem:=Da\nrule=vote:>C&BD\n";
+    expect_breach(stale, &[0, 1, 14], 0, 2);
+    expect_breach(stale, &[0, 1, 14, 14], 1, 2);
+    expect_breach(&one_bit("1", "a", "1"), &[0], 0, 0);
+    expect_breach(&one_bit("1", "a", "1"), &[1, 1, 0], 0, 2);
+    expect_no_breach(&one_bit("1", "a", "1"), &[1, 1], 0);
+}
+
+/// The first breach of any property.
+#[test]
+fn a_log_and_several_properties() {
+    expect_breach(&two_bits(&["!a", "!b"], &["=Aa", "=Bb"]), &[0, 2], 2, 1);
+    expect_breach(&two_bits(&["!a", "!b"], &["=Aa", "=Bb"]), &[0, 1, 2], 3, 1);
+    expect_breach(&two_bits(&["!&ab", "!b"], &["=Aa", "=Bb"]), &[0, 1, 2, 3], 3, 2);
+    expect_breach(&two_bits(&["1", "1", "1", "!&ab"], &["1", ">Ba"]), &[0, 1, 2, 3], 2, 3);
+    expect_no_breach(&two_bits(&["1", "1", "1", "1"], &["0"]), &[0, 1, 2, 3], 1);
+}
+
+/// A start part is asked of the first state alone. There it is broken whatever its step part says.
+#[test]
+fn start_parts_and_logs() {
+    expect_breach(POWER_UP, &[4], 8, 0);
+    expect_breach(POWER_UP, &[5, 1], 8, 0);
+    expect_breach(POWER_UP, &[5, 6], 8 + 5, 0);
+    expect_breach(POWER_UP, &[0, 4], 7, 1);
+    expect_breach(POWER_UP, &[7, 7, 5], 8 + 6, 2);
+    expect_no_breach(POWER_UP, &[7], 8);
+    expect_no_breach(POWER_UP, &[7, 3, 7], 8);
+    expect_no_breach(POWER_UP, &[0, 7, 7], 0);
+    let both_parts = one_bit("1", "!a", ">Aa:!a");
+    expect_breach(&both_parts, &[1], 1, 0);
+    expect_breach(&both_parts, &[1, 0], 1, 0);
+    expect_breach(&both_parts, &[0, 1], 1, 1);
+    expect_no_breach(&both_parts, &[0, 0], 0);
+    // No state meets both start parts, and either is broken alone.
+    let contradictory = "vars=1\nrules=2\ninit=1\nprop=0\nrule=r:1:a\nrule=s:1:!a\n";
+    expect_breach(contradictory, &[0], 1, 0);
+    expect_breach(contradictory, &[1, 0], 2, 0);
+}
+
+/// Number 14 for no state and for one of 2^N or more anywhere; 15 for a first state that does not meet `init`, and after 14.
+#[test]
+fn bytes_that_are_no_log() {
+    for log in [&[][..], &[8], &[255], &[0, 8], &[8, 0], &[0, 16, 0], &[0, 1, 2, 3, 128], &[0, 5, 8]] {
+        expect_log_refused(TREMOR, log, Reason::NotALog);
+    }
+    for log in [&[4, 8][..], &[7, 255], &[5, 0, 0, 9]] {
+        expect_log_refused(TREMOR, log, Reason::NotALog);
+    }
+    for log in [&[4][..], &[5], &[6], &[7], &[7, 0], &[4, 4, 4], &[5, 6, 7, 0]] {
+        expect_log_refused(TREMOR, log, Reason::InitUnmet);
+    }
+    // No state meets this `init`, so there is no log.
+    for (log, reason) in
+        [(&[0][..], Reason::InitUnmet), (&[1, 0], Reason::InitUnmet), (&[2], Reason::NotALog)]
+    {
+        expect_log_refused(&one_bit("0", "0", "1"), log, reason);
+    }
+    expect_log_refused(&one_bit("0", "0", "1"), &[], Reason::NotALog);
+    // Of `init` a first state is asked, and no start part: that a rule breaks.
+    expect_log_refused(&one_bit("!a", "1", "1:a"), &[1], Reason::InitUnmet);
+    expect_no_breach(&one_bit("!a", "1", "1:a"), &[0], 1);
+}
+
+/// The largest state of seven bits, and each of sixteen rules.
+#[test]
+fn the_largest_states_and_sets_of_a_log() {
+    let seven = "vars=7\nrules=1\ninit=1\nprop=!g\nrule=r:=Gg\n";
+    expect_breach(seven, &[127], 0, 0);
+    expect_breach(seven, &[63, 127, 127], 1, 1);
+    expect_no_breach(seven, &[0, 63], 0);
+    for log in [&[128][..], &[0, 128], &[127, 255], &[129, 127]] {
+        expect_log_refused(seven, log, Reason::NotALog);
+    }
+    let sixteen = |rule: &str, last: &str| {
+        let rules: String = (0..15).map(|place| format!("rule=r{place}:{rule}\n")).collect();
+        format!("vars=1\nrules=16\ninit=!a\nprop=!a\n{rules}rule=r15:{last}\n")
+    };
+    expect_breach(&sixteen("!A", "!A"), &[0, 1], 65_535, 1);
+    expect_breach(&sixteen("1", "!A"), &[0, 1], 1 << 15, 1);
+    expect_breach(&sixteen("!A", "1"), &[0, 0, 1], 0x7FFF, 2);
+    expect_no_breach(&sixteen("1:a", "1"), &[0], 0x7FFF);
+}
+
+/// The numbers of the text come first, 9 the last of them.
+#[test]
+fn a_refused_text_before_a_log() {
+    let follow = TREMOR.to_string() + "\n";
+    for log in [&[0, 7][..], &[], &[8], &[4], &[255, 255], &[0, 5]] {
+        let answer = |text: &str| calls::blame(text.as_bytes(), log);
+        assert_eq!(answer(&follow), Err(Refused::new(Reason::BytesFollow, 8)), "{log:?}");
+        assert_eq!(answer(""), Err(Refused::new(Reason::LineDue, 1)), "{log:?}");
+        assert_eq!(answer(&tremor_with(1, "rules=4")), Err(Refused::new(Reason::LineDue, 8)), "{log:?}");
+        assert_eq!(answer(&tremor_with(6, "rule=rb:1")), Err(Refused::new(Reason::NameTwice, 7)), "{log:?}");
     }
 }
 

@@ -1,5 +1,6 @@
 //! The wrapper against include/codremif.h: the refusals have the same numbers, names and words, what is said of a set has the
-//! same numbers and names, as many bytes are enough, and the library is of the header's version.
+//! same numbers and names, as many bytes are enough, the same number stands for no place, and the library is of the header's
+//! version.
 
 #![deny(warnings)]
 
@@ -72,6 +73,15 @@ fn bytes_that_are_enough() {
     for (name, bytes) in [("MARK", calls::MARK_BYTES), ("LIST", calls::LIST_BYTES)] {
         let stated = between(&header, &format!("#define CODREMIF_{name}_BYTES "), "\n");
         assert_eq!(stated, bytes.to_string(), "header left, wrapper right");
+    }
+}
+
+/// The wrapper takes 2^64 - 1 for none.
+#[test]
+fn no_place() {
+    let header = header();
+    for name in ["WITNESS", "PLACE"] {
+        assert_eq!(between(&header, &format!("#define CODREMIF_NO_{name} "), "\n"), "((uint64_t)-1)");
     }
 }
 

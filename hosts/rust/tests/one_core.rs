@@ -8,7 +8,7 @@ use std::collections::{BTreeMap, BTreeSet};
 
 use codremif_host::answer::{OneCore, Reason, Refused};
 use codremif_host::calls;
-use codremif_host::compare::{show, Asked, Tally};
+use codremif_host::compare::{demand_each, show, Asked, Tally};
 use codremif_host::handed::Guarded;
 use codremif_host::lent::Fill;
 use codremif_host::plain::one_core::order_for;
@@ -141,16 +141,10 @@ fn demand_of_random_models(seen: &Seen) {
     assert!(seen.dropped_after_kept >= 3_000 && seen.order_tells >= 500, "{seen:?}");
     assert!(seen.by_rules.iter().all(|times| *times >= 1_000), "{seen:?}");
     assert!(seen.properties.fewest() >= 500, "{seen:?}");
-    for fault in Fault::ALL {
-        let times = seen.faults.get(&fault).copied().unwrap_or(0);
-        assert!(times >= 3_000, "{fault:?} came up {times} times only; {seen:?}");
-    }
+    demand_each(&seen.faults, Fault::ALL, 3_000);
     assert!(seen.fault_beside_no_core >= 3_000, "{seen:?}");
     // The numbers of a text come before that of an order.
-    for number in (1..=9).chain([13]) {
-        let times = seen.beside_damaged.get(&number).copied().unwrap_or(0);
-        assert!(times >= 20, "number {number} came up {times} times only; {seen:?}");
-    }
+    demand_each(&seen.beside_damaged, (1..=9).chain([13]), 20);
 }
 
 /// Where the full set holds, every order finds a core of the library's list, and all orders together find all of them.

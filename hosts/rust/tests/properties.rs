@@ -4,6 +4,7 @@
 
 #![deny(warnings)]
 
+use codremif_host::answer::Blame;
 use codremif_host::calls;
 use codremif_host::compare::show;
 use codremif_host::everything::{self, reached, Everything};
@@ -12,6 +13,7 @@ use codremif_host::plain::sets::minimal;
 use codremif_host::plain::trace::trace;
 use codremif_host::random::generator::seed_for;
 use codremif_host::random::lists::random_set;
+use codremif_host::random::logs::states;
 use codremif_host::random::models::{model, model_of, Kind};
 use codremif_host::random::orders::order;
 use codremif_host::random::properties::{with_several_properties, PropertyCounts};
@@ -218,6 +220,35 @@ fn the_same_states_reached_by_each_property() {
     assert!(properties.fewest() >= 500, "{properties:?}");
 }
 
+/// The rules that are broken in a log do not depend on the properties, and the first breach is the first of those by each.
+#[test]
+fn blame_by_each_property() {
+    let mut random = Random::new(seed_for("blame by each property", 20_260_705));
+    let mut properties = PropertyCounts::default();
+    let (mut logs, mut breaches, mut by_another) = (0, 0, 0);
+    while logs < 5_000 {
+        let written = small_model(&mut random);
+        let length = random.between(1, 20);
+        let log = states(&mut random, &written, length);
+        let Ok(joint) = calls::blame(&written.text(), &log) else { continue };
+        let by_each: Vec<Blame> = (written.by_property().iter())
+            .map(|alone| calls::blame(&alone.text(), &log).expect("the same rules and `init`"))
+            .collect();
+        let about = || format!("log {log:?}; {}", show(&written.text()));
+        assert!(by_each.iter().all(|alone| alone.broken == joint.broken), "{by_each:?}; {}", about());
+        let first = by_each.iter().map(|alone| alone.breach.place()).min().expect("a property");
+        assert_eq!(joint.breach.place(), first, "joint left; {}", about());
+        properties.note(written.properties.len());
+        logs += 1;
+        breaches += usize::from(first < length);
+        by_another += usize::from(first < by_each[0].breach.place());
+    }
+    println!(
+        "blame by each property: {breaches} breaches, {by_another} by another than the first, {properties:?}"
+    );
+    assert!(properties.fewest() >= 500 && breaches >= 2_000 && by_another >= 500, "{properties:?}");
+}
+
 /// The library says the same of other texts that mean the same: with one property that is the conjunction, with the
 /// properties in another order, and with one of them again.
 #[test]
@@ -228,7 +259,8 @@ fn the_same_in_other_words() {
         let written = small_model(&mut random);
         let sets = [0, full_set(&written), random_set(&mut random) & full_set(&written)];
         let order = order(&mut random, written.rules.len());
-        let said = Everything::of(&written.text(), &sets, &order);
+        let log = states(&mut random, &written, 8);
+        let said = Everything::of(&written.text(), &sets, &order, &log);
         for (count, properties) in [
             (&mut conjunctions, vec![join('&', &written.properties)]),
             (&mut orders, written.properties.iter().rev().cloned().collect()),
@@ -237,7 +269,7 @@ fn the_same_in_other_words() {
             let is_model = properties.len() <= 4 && properties.iter().all(|property| property.len() <= 64);
             if is_model && properties != written.properties {
                 let other = written.with_properties(properties).text();
-                let of_other = Everything::of(&other, &sets, &order);
+                let of_other = Everything::of(&other, &sets, &order, &log);
                 assert_eq!(of_other, said, "{}; {}", show(&other), show(&written.text()));
                 *count += 1;
             }

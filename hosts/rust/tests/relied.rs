@@ -7,7 +7,7 @@ use std::collections::BTreeMap;
 
 use codremif_host::answer::Verdict;
 use codremif_host::calls;
-use codremif_host::compare::show;
+use codremif_host::compare::{demand_each, show};
 use codremif_host::plain::expression::Place;
 use codremif_host::random::generator::seed_for;
 use codremif_host::random::models::model;
@@ -70,10 +70,7 @@ fn another_expression_outside_must() {
     assert!(seen.in_must >= 1000, "{seen:?}");
     assert!(seen.shortest == 1 && seen.longest == 64, "{seen:?}");
     assert!(seen.properties.fewest() >= 1000, "{seen:?}");
-    for part in [Part::Step, Part::Start, Part::StartAdded, Part::StartTakenAway] {
-        let times = seen.parts.get(&part).copied().unwrap_or(0);
-        assert!(times >= 500, "{part:?} came up {times} times only; {seen:?}");
-    }
+    demand_each(&seen.parts, [Part::Step, Part::Start, Part::StartAdded, Part::StartTakenAway], 500);
 }
 
 /// Small ones mostly: a call's time grows with 4^N.

@@ -7,6 +7,7 @@
 use std::collections::BTreeMap;
 
 use codremif_host::answer::Reason;
+use codremif_host::calls;
 use codremif_host::compare::{show, Tally};
 use codremif_host::everything::{reached, trace, Everything};
 use codremif_host::lent::Fill;
@@ -17,6 +18,7 @@ use codremif_host::plain::system::TransitionSystem;
 use codremif_host::plain::text::{self, Model, Rule};
 use codremif_host::random::generator::seed_for;
 use codremif_host::random::lists::random_set;
+use codremif_host::random::logs::states;
 use codremif_host::random::models::{model, model_of, KINDS};
 use codremif_host::random::orders::order;
 use codremif_host::random::properties::PropertyCounts;
@@ -66,7 +68,8 @@ impl Seen {
         let model = text::read(&text).unwrap_or_else(|refused| panic!("{refused}; {}", show(&text)));
         let plain = Answers::of_model(&model);
         let sets = sets(random, &plain);
-        self.tally.accepted_text(&text, &plain, &sets, &order(random, plain.system.rules), fill);
+        let (order, log) = (order(random, plain.system.rules), states(random, written, 8));
+        self.tally.accepted_text(&text, &plain, &sets, &order, &log, fill);
         self.start_parts.note(written);
         self.properties.note(written.properties.len());
         self.most_cores = self.most_cores.max(plain.cores.len());
@@ -256,10 +259,11 @@ fn start_parts_that_say_nothing() {
         let written = small_model(&mut random);
         let sets = some_sets(&mut random, &written);
         let order = order(&mut random, written.rules.len());
-        let said = Everything::of(&written.text(), &sets, &order);
+        let log = states(&mut random, &written, 8);
+        let said = Everything::of(&written.text(), &sets, &order, &log);
         for start in ["1", &written.init] {
             let text = with_start_part_everywhere(&written, start).text();
-            let of_other = Everything::of(&text, &sets, &order);
+            let of_other = Everything::of(&text, &sets, &order, &log);
             assert_eq!(of_other, said, "{}; {}", show(&text), show(&written.text()));
         }
         start_parts.note(&written);
@@ -293,7 +297,8 @@ fn without_start_parts_as_before() {
         let before = Answers::of_system(TransitionSystem::of(&model).with_start_states(start));
         let sets = some_sets(&mut random, &written);
         let order = order(&mut random, written.rules.len());
-        tally.accepted_text(&text, &before, &sets, &order, Fill::ALL[turn % 3]);
+        let log = states(&mut random, &written, 8);
+        tally.accepted_text(&text, &before, &sets, &order, &log, Fill::ALL[turn % 3]);
         held += usize::from(!before.cores.is_empty());
         broken += usize::from(before.cores.is_empty());
     }
@@ -328,4 +333,32 @@ fn the_start_parts_of_a_set_in_init() {
     }
     println!("the start parts of a set in init: {compared} sets, {several} with several start parts");
     assert!(compared >= 8_000 && several >= 4_000);
+}
+
+/// In a log, start parts are asked of the first state alone: what is broken beside that is what is broken without start parts. By
+/// the library alone.
+#[test]
+fn start_parts_in_a_log() {
+    let mut random = Random::new(seed_for("start parts in a log", 20_261_007));
+    let (mut compared, mut at_start, mut by_start_part, mut by_both) = (0, 0, 0, 0);
+    while compared < 5_000 {
+        let (bits, rules) = (random.pick(&[1, 2, 2, 3, 3, 3, 4, 4, 5]), random.between(1, 8));
+        let written = model_with_start_parts(&mut random, bits, rules);
+        let length = random.between(1, 12);
+        let log = states(&mut random, &written, length);
+        let broken = |text: &[u8], log: &[u8]| calls::blame(text, log).map(|said| said.broken);
+        let text = written.text();
+        let Ok(in_first) = broken(&text, &log[..1]) else { continue };
+        let in_steps = broken(&without_start_parts(&written).text(), &log).expect("the same `init`");
+        let about = || format!("log {log:?}; {}", show(&text));
+        assert_eq!(broken(&text, &log), Ok(in_first | in_steps), "{}", about());
+        compared += 1;
+        at_start += usize::from(in_first != 0);
+        by_start_part += usize::from(in_first & !in_steps != 0);
+        by_both += usize::from(in_first & in_steps != 0);
+    }
+    println!(
+        "start parts in a log: {at_start} break one, {by_start_part} that alone, {by_both} the step part too"
+    );
+    assert!(at_start >= 1_500 && by_start_part >= 500 && by_both >= 1_000);
 }

@@ -71,6 +71,10 @@ module _ {text : List ℕ} {m : Model} (r : IsRead text m) where
   pub rules-read : m .rules ≡ rulesIn text
   rules-read = ap (λ x. x .rules) (r .model) ∙ sym (rules-told text)
 
+  pub states-read : 2 ^ m .vars ≡ statesIn text
+  unfolding statesIn described
+  states-read = ap (λ D. 2 ^ D .vars) (read-model r)
+
   pub set-read : {S : ℕ} → S < 2 ^ m .rules → S < 2 ^ rulesIn text
   set-read h = rw rules-read at h
 

@@ -3,11 +3,11 @@
 use Prim.Native.Nat.{ℕ, _*_, _^_, _≤_, _<_}
 use mathlib.Core.Path.{_≡_, refl, sym, ap, ap₂, _∙_, subst, subst₂}
 use mathlib.Core.Logic.{_↔_, _⊎_, inl, inr}
-use mathlib.Core.Bool.{Bool, true, false}
+use mathlib.Core.Bool.{Bool, true, false, true≢false}
 use mathlib.Core.List.{List, []}
 use native.Mathlib.Omega.{arith}
 use native.Mathlib.Decide.{decLt}
-use lib.ListN.{length}
+use lib.ListN.{length, getD}
 use Rattle.sets.specs.Lists.{bytesOf}
 use Rattle.sets.specs.Orders.{IsOrder}
 use Rattle.sets.specs.Laws.Orders.{order-or-not}
@@ -15,9 +15,13 @@ use Rattle.models.specs.declared.model.Outcome.{Outcome}
 use Rattle.models.specs.declared.model.Outcome.the-variants.{Accepted, Refused}
 use Rattle.models.specs.Refusals.{FitsAt, line-missing, count-wrong, name-improper, name-taken, length-wrong, byte-other, letter-beyond, letter-capital, not-one, bytes-follow, First}
 use Rattle.models.specs.Laws.Refusals.{RightOutcome, none-fits, first-fits, right-outcome}
+use Rattle.models.specs.Written.{modelIn}
 use Rattle.systems.specs.System.{System, Trace}
 use Rattle.systems.specs.Verdict.{holds, traceOf}
 use Rattle.systems.specs.Judged.{judged}
+use Rattle.logs.specs.Log.{IsLog}
+use Rattle.logs.specs.Laws.Log.{log-or-not}
+use Rattle.semantics.specs.Meaning.{initMet}
 use Rattle.sorting.specs.declared.which.WhichList.{WhichList}
 use Rattle.calls.specs.declared.answers.JudgeAnswer.the-variants.{Refused as JudgeRefused}
 use Rattle.calls.specs.declared.answers.ReachedAnswer.the-variants.{Refused as ReachedRefused}
@@ -27,10 +31,13 @@ use Rattle.calls.specs.Answers.{rulesIn, statesIn, systemIn, traceIn, marksIn, 
 use Rattle.preferences.specs.declared.answer.OneCoreAnswer.the-variants.{Refused as OneCoreRefused}
 use Rattle.preferences.specs.Answer.{oneCoreIn, oneCoreOutcome, oneCoreAnswer}
 use Rattle.preferences.specs.Laws.Answer.{OneCoreNumbers, one-core-numbers, found-told}
-use Rattle.codremif.specs.Packing.{Parts, refused, judgeParts, reachedParts, listParts, setParts, oneCoreParts, packed}
-use Rattle.codremif.specs.Demand1.{AskedFits, asked-text, set-beyond, bytes-fewer, TraceLonger, JudgeFits, ReachedFits, OwnFits, text-fits, own-fits, ListFits, OneCoreFits, FirstOf, Refusals, Demand1, HostRefusals, HostDemand1}
-use Rattle.calls.specs.Laws.Answers.{AskedNumbers, asked-numbers, list-numbers, given-refused, given-accepted, refusal-given, not-refused, length-marks, pairs-told}
-use Rattle.codremif.specs.Laws.Host.{HostReads, judge-reads, reached-reads, list-reads, kind-reads, one-core-reads}
+use Rattle.blaming.specs.declared.answer.BlameAnswer.the-variants.{Refused as BlameRefused}
+use Rattle.blaming.specs.Answer.{blameIn, blameOutcome, blameAnswer}
+use Rattle.blaming.specs.Laws.Answer.{BlameNumbers, blame-numbers, blamed-told}
+use Rattle.packing.specs.Packing.{Parts, refused, judgeParts, reachedParts, listParts, setParts, oneCoreParts, blameParts, breachNumber, packed}
+use Rattle.codremif.specs.Demand1.{CallFits, text-fits, own-fits, AskedOwn, set-beyond, bytes-fewer, TraceLonger, JudgeFits, ReachedFits, ListOwn, list-longer, ListFits, OneCoreOwn, no-order, OneCoreFits, BlameOwn, no-log, init-unmet, BlameFits, FirstOf, Refusals, Demand1, HostRefusals, HostDemand1}
+use Rattle.calls.specs.Laws.Answers.{AskedNumbers, asked-numbers, ListNumbers, list-numbers, given-refused, given-accepted, refusal-given, not-refused, length-marks, pairs-told}
+use Rattle.codremif.specs.Laws.Host.{HostReads, judge-reads, reached-reads, list-reads, kind-reads, one-core-reads, blame-reads}
 
 -- ---- the numbers of a text are 1 to 9
 
@@ -96,64 +103,81 @@ least-first Fits {number} {line} above f least = record { fits = f; none = earli
     earlier n l (inr (inl h)) g = omega (arith, h .1, least n l g)
     earlier n l (inr (inr h)) g = omega (arith, h .1 .0)
 
+-- ---- a call that adds numbers of its own to those of the text
+
+-- None of its own numbers fits, or this is the first that does.
+data OwnRight (Own : ℕ → Type 0) : Outcome → Type 0 where
+  own-none : ((n : ℕ) → ¬ Own n) → OwnRight Own Accepted
+  own-first : {n : ℕ} → Own n → ((m : ℕ) → Own m → n ≤ m) → OwnRight Own (Refused n 0)
+
+call-zero : (text : List ℕ) (Own : ℕ → Type 0) (number line : ℕ) → CallFits text Own number line → 9 < number → line ≡ 0
+call-zero text Own number line (text-fits f) h = absurd (omega (arith, text-most f))
+call-zero text Own number line (own-fits g) h = refl
+
+-- Its outcome is right where the text's number comes first, and where the text is accepted the first of its own; these are above 9.
+module _ (text : List ℕ) (Own : ℕ → Type 0) (above : (n : ℕ) → Own n → 9 < n) {o : Outcome}
+    (byText : (number line : ℕ) → textOutcome text ≡ Refused number line → o ≡ Refused number line) (byOwn : textOutcome text ≡ Accepted → OwnRight Own o) where
+  call-out : (number line : ℕ) → number ≤ 9 → CallFits text Own number line → FitsAt text number line
+  call-out number line h (text-fits f) = f
+  call-out number line h (own-fits g) = absurd (omega (arith, above number g))
+
+  by-own : ((number line : ℕ) → ¬ FitsAt text number line) → {p : Outcome} → OwnRight Own p → Right (CallFits text Own) p
+  by-own no-text (own-none none) = fits-none only
+    where
+      only : (n l : ℕ) → ¬ CallFits text Own n l
+      only n l (text-fits f) = no-text n l f
+      only n l (own-fits g) = none n g
+  by-own no-text (own-first {n = own} g first) = fits-first (least-first (CallFits text Own) (above own g) (own-fits g) least)
+    where
+      least : (n l : ℕ) → CallFits text Own n l → own ≤ n
+      least n l (text-fits f) = absurd (no-text n l f)
+      least n l (own-fits h) = first n h
+
+  call-right : Right (CallFits text Own) o
+  unfolding textOutcome
+  call-right = go refl (right-outcome text)
+    where
+      go : {t : Outcome} → textOutcome text ≡ t → RightOutcome text t → Right (CallFits text Own) o
+      go e (none-fits n) = by-own n (byOwn e)
+      go e (first-fits f) = subst (Right _) (sym (byText _ _ e)) (fits-first (text-first (CallFits text Own) (λ n l g. text-fits g) call-out f))
+
+-- Where one of its own numbers is told, or none.
+own-said : {Own : ℕ → Type 0} {o p : Outcome} → o ≡ p → OwnRight Own p → OwnRight Own o
+own-said {Own} e r = subst (OwnRight Own) (sym e) r
+
 -- ---- a call that is handed a set
 
 module _ (text : List ℕ) (S : ℕ) (TooFew : Type 0) where
-  asked-zero : (number line : ℕ) → AskedFits text S TooFew number line → 9 < number → line ≡ 0
-  asked-zero number line (asked-text f) h = absurd (omega (arith, text-most f))
-  asked-zero number line (set-beyond l) h = refl
-  asked-zero number line (bytes-fewer l) h = refl
+  asked-above : (n : ℕ) → AskedOwn text S TooFew n → 9 < n
+  asked-above n (set-beyond h) = omega arith
+  asked-above n (bytes-fewer h) = omega arith
 
-  asked-out : (number line : ℕ) → number ≤ 9 → AskedFits text S TooFew number line → FitsAt text number line
-  asked-out number line h (asked-text f) = f
-  asked-out number line h (set-beyond l) = absurd (omega arith)
-  asked-out number line h (bytes-fewer l) = absurd (omega arith)
+  from-ten : (n : ℕ) → AskedOwn text S TooFew n → 10 ≤ n
+  from-ten n h = omega (arith, asked-above n h)
+
+  from-eleven : S < 2 ^ rulesIn text → (n : ℕ) → AskedOwn text S TooFew n → 11 ≤ n
+  from-eleven h n (set-beyond k) = absurd (omega arith)
+  from-eleven h n (bytes-fewer k) = omega arith
+
+  asked-none : S < 2 ^ rulesIn text → ¬ TooFew → (n : ℕ) → ¬ AskedOwn text S TooFew n
+  asked-none h enough n (set-beyond k) = omega arith
+  asked-none h enough n (bytes-fewer k) = enough k
 
   -- It writes these new bytes.
-  module _ (new lent : List ℕ) (too-few : TooFew ↔ (length lent < length new)) where
-    -- which number it is, by cases: these say in which order 1 to 9, 10 and 11 are tried
-    numbers : AskedNumbers text S new lent (askedOutcome text S new lent)
-    numbers = asked-numbers text S new lent
+  asked-right : (new lent : List ℕ) → TooFew ↔ (length lent < length new) → Right (CallFits text (AskedOwn text S TooFew)) (askedOutcome text S new lent)
+  asked-right new lent too-few = call-right text (AskedOwn text S TooFew) asked-above (numbers .byText) (λ e. by-set e (decLt S (2 ^ rulesIn text)))
+    where
+      -- which number it is, by cases: these say in which order 1 to 9, 10 and 11 are tried
+      numbers : AskedNumbers text S new lent (askedOutcome text S new lent)
+      numbers = asked-numbers text S new lent
 
-    rightly : {o : Outcome} → askedOutcome text S new lent ≡ o → Right (AskedFits text S TooFew) o
-        → Right (AskedFits text S TooFew) (askedOutcome text S new lent)
-    rightly e r = subst (Right (AskedFits text S TooFew)) (sym e) r
+      by-length : textOutcome text ≡ Accepted → S < 2 ^ rulesIn text → Dec (length lent < length new) → OwnRight (AskedOwn text S TooFew) (askedOutcome text S new lent)
+      by-length e h (yes short) = own-said (numbers .byLength e h short) (own-first (bytes-fewer (too-few .1 short)) (from-eleven h))
+      by-length e h (no b) = own-said (numbers .byNone e h (omega arith)) (own-none (asked-none h (λ t. b (too-few .0 t))))
 
-    module _ (accepted : textOutcome text ≡ Accepted) (no-text : (number line : ℕ) → ¬ FitsAt text number line) where
-      from-ten : (n l : ℕ) → AskedFits text S TooFew n l → 10 ≤ n
-      from-ten n l (asked-text f) = absurd (no-text n l f)
-      from-ten n l (set-beyond h) = omega arith
-      from-ten n l (bytes-fewer h) = omega arith
-
-      from-eleven : S < 2 ^ rulesIn text → (n l : ℕ) → AskedFits text S TooFew n l → 11 ≤ n
-      from-eleven h n l (asked-text f) = absurd (no-text n l f)
-      from-eleven h n l (set-beyond k) = absurd (omega arith)
-      from-eleven h n l (bytes-fewer k) = omega arith
-
-      none-left : S < 2 ^ rulesIn text → length new ≤ length lent → (n l : ℕ) → ¬ AskedFits text S TooFew n l
-      none-left h k n l (asked-text f) = no-text n l f
-      none-left h k n l (set-beyond b) = omega arith
-      none-left h k n l (bytes-fewer b) = omega (arith, too-few .0 b)
-
-      by-length : S < 2 ^ rulesIn text → Dec (length lent < length new) → Right (AskedFits text S TooFew) (askedOutcome text S new lent)
-      by-length h (yes short) =
-          rightly (numbers .byLength accepted h short)
-          (fits-first (least-first (AskedFits text S TooFew) (omega arith) (bytes-fewer (too-few .1 short)) (from-eleven h)))
-      by-length h (no b) = rightly (numbers .byNone accepted h (omega arith)) (fits-none (none-left h (omega arith)))
-
-      by-set : Dec (S < 2 ^ rulesIn text) → Right (AskedFits text S TooFew) (askedOutcome text S new lent)
-      by-set (yes h) = by-length h (decLt (length lent) (length new))
-      by-set (no b) =
-          let h : 2 ^ rulesIn text ≤ S = omega arith in
-          rightly (numbers .bySet accepted h) (fits-first (least-first (AskedFits text S TooFew) (omega arith) (set-beyond h) from-ten))
-
-    asked-right : Right (AskedFits text S TooFew) (askedOutcome text S new lent)
-    unfolding textOutcome
-    asked-right = go refl (right-outcome text)
-      where
-        go : {o : Outcome} → textOutcome text ≡ o → RightOutcome text o → Right (AskedFits text S TooFew) (askedOutcome text S new lent)
-        go e (none-fits n) = by-set e n (decLt S (2 ^ rulesIn text))
-        go e (first-fits f) = rightly (numbers .byText _ _ e) (fits-first (text-first (AskedFits text S TooFew) (λ n l g. asked-text g) asked-out f))
+      by-set : textOutcome text ≡ Accepted → Dec (S < 2 ^ rulesIn text) → OwnRight (AskedOwn text S TooFew) (askedOutcome text S new lent)
+      by-set e (yes h) = by-length e h (decLt (length lent) (length new))
+      by-set e (no b) = let h : 2 ^ rulesIn text ≤ S = omega arith in own-said (numbers .bySet e h) (own-first (set-beyond h) from-ten)
 
 module _ (text : List ℕ) (S : ℕ) (lent : List ℕ) where
   M : System
@@ -185,56 +209,80 @@ module _ (text : List ℕ) (S : ℕ) (lent : List ℕ) where
       asked-right text S (length lent < statesIn text) (marksIn text S) lent
       (λ l. omega (arith, l, length-marks text S), λ l. omega (arith, l, length-marks text S))
 
--- ---- a call that adds one number to those of the text
+-- ---- listing sets, and finding one core
 
-module _ (text : List ℕ) (own : ℕ) (Ground : Type 0) where
-  own-zero : (number line : ℕ) → OwnFits text own Ground number line → 9 < number → line ≡ 0
-  own-zero number line (text-fits f) h = absurd (omega (arith, text-most f))
-  own-zero number line (own-fits g) h = refl
+module _ (which : WhichList) (text lent : List ℕ) where
+  list-above : (n : ℕ) → ListOwn which text lent n → 9 < n
+  list-above n (list-longer h) = omega arith
 
-  module _ (above : 9 < own) (ground : Dec Ground) {o : Outcome} (byText : (number line : ℕ) → textOutcome text ≡ Refused number line → o ≡ Refused number line)
-      (byOwn : textOutcome text ≡ Accepted → Ground → o ≡ Refused own 0) (byNone : textOutcome text ≡ Accepted → ¬ Ground → o ≡ Accepted) where
-    own-out : (number line : ℕ) → number ≤ 9 → OwnFits text own Ground number line → FitsAt text number line
-    own-out number line h (text-fits f) = f
-    own-out number line h (own-fits g) = absurd (omega arith)
+  list-least : (n : ℕ) → ListOwn which text lent n → 11 ≤ n
+  list-least n (list-longer h) = omega arith
 
-    module _ (accepted : textOutcome text ≡ Accepted) (no-text : (number line : ℕ) → ¬ FitsAt text number line) where
-      own-least : (n l : ℕ) → OwnFits text own Ground n l → own ≤ n
-      own-least n l (text-fits f) = absurd (no-text n l f)
-      own-least n l (own-fits g) = omega arith
+  list-none : 2 * length (listIn which text) ≤ length lent → (n : ℕ) → ¬ ListOwn which text lent n
+  list-none enough n (list-longer h) = omega arith
 
-      own-none : ¬ Ground → (n l : ℕ) → ¬ OwnFits text own Ground n l
-      own-none not n l (text-fits f) = no-text n l f
-      own-none not n l (own-fits g) = not g
+  list-right : Right (ListFits which text lent) (listOutcome which text lent)
+  list-right = call-right text (ListOwn which text lent) list-above (numbers .byText) (λ e. go e (decLt (length lent) (2 * length (listIn which text))))
+    where
+      numbers : ListNumbers text (listIn which text) lent (listOutcome which text lent)
+      numbers = list-numbers which text lent
 
-      by-ground : Dec Ground → Right (OwnFits text own Ground) o
-      by-ground (yes g) = subst (Right _) (sym (byOwn accepted g)) (fits-first (least-first (OwnFits text own Ground) above (own-fits g) own-least))
-      by-ground (no not) = subst (Right _) (sym (byNone accepted not)) (fits-none (own-none not))
+      go : textOutcome text ≡ Accepted → Dec (length lent < 2 * length (listIn which text)) → OwnRight (ListOwn which text lent) (listOutcome which text lent)
+      go e (yes h) = own-said (numbers .byLength e h) (own-first (list-longer h) list-least)
+      go e (no b) = own-said (numbers .byNone e (omega arith)) (own-none (list-none (omega arith)))
 
-    own-right : Right (OwnFits text own Ground) o
-    unfolding textOutcome
-    own-right = go refl (right-outcome text)
-      where
-        go : {t : Outcome} → textOutcome text ≡ t → RightOutcome text t → Right (OwnFits text own Ground) o
-        go e (none-fits n) = by-ground e n ground
-        go e (first-fits f) = subst (Right _) (sym (byText _ _ e)) (fits-first (text-first (OwnFits text own Ground) (λ n l g. text-fits g) own-out f))
+module _ (text order : List ℕ) where
+  order-above : (n : ℕ) → OneCoreOwn text order n → 9 < n
+  order-above n (no-order f) = omega arith
 
--- Listing sets, and finding one core.
-list-right : (which : WhichList) (text lent : List ℕ) → Right (ListFits which text lent) (listOutcome which text lent)
-list-right which text lent =
-    let n = list-numbers which text lent in
-    own-right text 11 (length lent < 2 * length (listIn which text)) (omega arith) (decLt (length lent) (2 * length (listIn which text)))
-    (n .byText) (n .byLength) (λ e h. n .byNone e (omega arith))
+  order-least : (n : ℕ) → OneCoreOwn text order n → 13 ≤ n
+  order-least n (no-order f) = omega arith
 
-one-core-right : (text order : List ℕ) → Right (OneCoreFits text order) (oneCoreOutcome text order)
-one-core-right text order = go (order-or-not (rulesIn text) order)
-  where
-    n : OneCoreNumbers text order (oneCoreOutcome text order)
-    n = one-core-numbers text order
+  order-none : IsOrder (rulesIn text) order → (n : ℕ) → ¬ OneCoreOwn text order n
+  order-none o n (no-order f) = f o
 
-    go : Dec (IsOrder (rulesIn text) order) → Right (OneCoreFits text order) (oneCoreOutcome text order)
-    go (yes o) = own-right text 13 (¬ IsOrder (rulesIn text) order) (omega arith) (no (λ f. f o)) (n .byText) (n .byOrder) (λ e _. n .byNone e o)
-    go (no f) = own-right text 13 (¬ IsOrder (rulesIn text) order) (omega arith) (yes f) (n .byText) (n .byOrder) (λ e not. absurd (not f))
+  one-core-right : Right (OneCoreFits text order) (oneCoreOutcome text order)
+  one-core-right = call-right text (OneCoreOwn text order) order-above (numbers .byText) (λ e. go e (order-or-not (rulesIn text) order))
+    where
+      numbers : OneCoreNumbers text order (oneCoreOutcome text order)
+      numbers = one-core-numbers text order
+
+      go : textOutcome text ≡ Accepted → Dec (IsOrder (rulesIn text) order) → OwnRight (OneCoreOwn text order) (oneCoreOutcome text order)
+      go e (yes o) = own-said (numbers .byNone e o) (own-none (order-none o))
+      go e (no f) = own-said (numbers .byOrder e f) (own-first (no-order f) order-least)
+
+-- ---- blame from a log
+
+module _ (text log : List ℕ) where
+  log-above : (n : ℕ) → BlameOwn text log n → 9 < n
+  log-above n (no-log f) = omega arith
+  log-above n (init-unmet i) = omega arith
+
+  from-fourteen : (n : ℕ) → BlameOwn text log n → 14 ≤ n
+  from-fourteen n (no-log f) = omega arith
+  from-fourteen n (init-unmet i) = omega arith
+
+  from-fifteen : IsLog (statesIn text) log → (n : ℕ) → BlameOwn text log n → 15 ≤ n
+  from-fifteen l n (no-log f) = absurd (f l)
+  from-fifteen l n (init-unmet i) = omega arith
+
+  log-none : IsLog (statesIn text) log → initMet (modelIn text) (getD log 0 0) ≡ true → (n : ℕ) → ¬ BlameOwn text log n
+  log-none l met n (no-log f) = f l
+  log-none l met n (init-unmet i) = true≢false (sym met ∙ i)
+
+  blame-right : Right (BlameFits text log) (blameOutcome text log)
+  blame-right = call-right text (BlameOwn text log) log-above (numbers .byText) (λ e. by-log e (log-or-not (statesIn text) log))
+    where
+      numbers : BlameNumbers text log (blameOutcome text log)
+      numbers = blame-numbers text log
+
+      by-init : textOutcome text ≡ Accepted → IsLog (statesIn text) log → (b : Bool) → initMet (modelIn text) (getD log 0 0) ≡ b → OwnRight (BlameOwn text log) (blameOutcome text log)
+      by-init e l true met = own-said (numbers .byNone e l met) (own-none (log-none l met))
+      by-init e l false met = own-said (numbers .byInit e l met) (own-first (init-unmet met) (from-fifteen l))
+
+      by-log : textOutcome text ≡ Accepted → Dec (IsLog (statesIn text) log) → OwnRight (BlameOwn text log) (blameOutcome text log)
+      by-log e (yes l) = by-init e l _ refl
+      by-log e (no f) = own-said (numbers .byLog e f) (own-first (no-log f) from-fourteen)
 
 -- ---- giving MUST, MAY or the irrelevant rules
 
@@ -314,47 +362,59 @@ module _ (text : List ℕ) where
   set-other S number line q = let z : _≡_ {A = ℕ} 0 1 = cc in omega arith
 
   pub calls-meet-demand1 : Demand1 text
-  unfolding judgeAnswer judgeBytes reachedAnswer reachedBytes listAnswer listBytes kindAnswer oneCoreAnswer judgeParts reachedParts listParts setParts oneCoreParts
+  unfolding judgeAnswer judgeBytes reachedAnswer reachedBytes listAnswer listBytes kindAnswer oneCoreAnswer blameAnswer judgeParts reachedParts listParts setParts oneCoreParts blameParts
   calls-meet-demand1 =
       record {
         judge = λ S lent.
-            refusals (asked-zero text S (TraceLonger text S lent)) JudgeRefused judgeParts (λ n l. refl) _ (not-refused (systemIn text S)) (λ n l k j q. cc) (judge-right text S lent) (traceIn text S) lent;
+            refusals (call-zero text (AskedOwn text S (TraceLonger text S lent))) JudgeRefused judgeParts (λ n l. refl) _ (not-refused (systemIn text S)) (λ n l k j q. cc) (judge-right text S lent) (traceIn text S) lent;
         reached = λ S lent.
-            refusals (asked-zero text S (length lent < statesIn text)) ReachedRefused reachedParts (λ n l. refl) _ (pairs-told (pairsIn text S)) (λ n l k j q. cc)
+            refusals (call-zero text (AskedOwn text S (length lent < statesIn text))) ReachedRefused reachedParts (λ n l. refl) _ (pairs-told (pairsIn text S)) (λ n l k j q. cc)
             (reached-right text S lent) (marksIn text S) lent;
         list = λ which lent.
-            refusals (own-zero text 11 (length lent < 2 * length (listIn which text))) ListRefused listParts (λ n l. refl) _ (count-other (length (listIn which text))) (λ n l k j q. cc) (list-right which text lent)
+            refusals (call-zero text (ListOwn which text lent)) ListRefused listParts (λ n l. refl) _ (count-other (length (listIn which text))) (λ n l k j q. cc) (list-right which text lent)
             (bytesOf (listIn which text)) lent;
         kind = λ kind.
             let r = refusals (text-zero text) SetRefused setParts (λ n l. refl) _ (set-other (kindIn kind text)) (λ n l k j q. cc) (text-right text) [] [] in
             record { first = r .first; accepted = r .accepted; zero = r .zero; kept = λ n l q. refl };
         oneCore = λ order.
-            let r = refusals (own-zero text 13 (¬ IsOrder (rulesIn text) order)) OneCoreRefused oneCoreParts (λ n l. refl) _ (found-told (oneCoreIn text order)) (λ n l k j q. cc)
+            let r = refusals (call-zero text (OneCoreOwn text order)) OneCoreRefused oneCoreParts (λ n l. refl) _ (found-told (oneCoreIn text order)) (λ n l k j q. cc)
             (one-core-right text order) [] []
+            in
+            record { first = r .first; accepted = r .accepted; zero = r .zero; kept = λ n l q. refl };
+        blame = λ log.
+            let r = refusals (call-zero text (BlameOwn text log)) BlameRefused blameParts (λ n l. refl) _ (blamed-told (length log) (blameIn text log)) (λ n l k j q. cc)
+            (blame-right text log) [] []
             in
             record { first = r .first; accepted = r .accepted; zero = r .zero; kept = λ n l q. refl };
       }
 
   pub hosts-meet-demand1 : HostDemand1 text
-  unfolding judgeAnswer judgeBytes reachedAnswer reachedBytes listAnswer listBytes kindAnswer oneCoreAnswer judgeParts reachedParts listParts setParts oneCoreParts
+  unfolding judgeAnswer judgeBytes reachedAnswer reachedBytes listAnswer listBytes kindAnswer oneCoreAnswer blameAnswer judgeParts reachedParts listParts setParts oneCoreParts blameParts breachNumber
   hosts-meet-demand1 =
       record {
         judge = λ S lent.
-            host-refusals (asked-zero text S (TraceLonger text S lent)) JudgeRefused judgeParts (λ n l. refl) _ (not-refused (systemIn text S)) (λ n l k j q. cc) (judge-right text S lent) (traceIn text S) lent
+            host-refusals (call-zero text (AskedOwn text S (TraceLonger text S lent))) JudgeRefused judgeParts (λ n l. refl) _ (not-refused (systemIn text S)) (λ n l k j q. cc) (judge-right text S lent) (traceIn text S) lent
             (judge-reads text S lent);
         reached = λ S lent.
-            host-refusals (asked-zero text S (length lent < statesIn text)) ReachedRefused reachedParts (λ n l. refl) _ (pairs-told (pairsIn text S)) (λ n l k j q. cc)
+            host-refusals (call-zero text (AskedOwn text S (length lent < statesIn text))) ReachedRefused reachedParts (λ n l. refl) _ (pairs-told (pairsIn text S)) (λ n l k j q. cc)
             (reached-right text S lent) (marksIn text S) lent (reached-reads text S lent);
         list = λ which lent.
-            host-refusals (own-zero text 11 (length lent < 2 * length (listIn which text))) ListRefused listParts (λ n l. refl) _ (count-other (length (listIn which text))) (λ n l k j q. cc) (list-right which text lent)
+            host-refusals (call-zero text (ListOwn which text lent)) ListRefused listParts (λ n l. refl) _ (count-other (length (listIn which text))) (λ n l k j q. cc) (list-right which text lent)
             (bytesOf (listIn which text)) lent (list-reads which text lent);
         kind = λ kind.
             let r = host-refusals (text-zero text) SetRefused setParts (λ n l. refl) _ (set-other (kindIn kind text)) (λ n l k j q. cc) (text-right text) [] [] (kind-reads kind text)
             in
             record { accepted = r .accepted; first = r .first; kept = λ n l f. refl };
         oneCore = λ order.
-            let r = host-refusals (own-zero text 13 (¬ IsOrder (rulesIn text) order)) OneCoreRefused oneCoreParts (λ n l. refl) _ (found-told (oneCoreIn text order)) (λ n l k j q. cc)
+            let r = host-refusals (call-zero text (OneCoreOwn text order)) OneCoreRefused oneCoreParts (λ n l. refl) _ (found-told (oneCoreIn text order)) (λ n l k j q. cc)
             (one-core-right text order) [] [] (one-core-reads text order)
             in
             record { accepted = r .accepted; first = r .first; kept = λ n l f. refl };
+        blame = λ log.
+            let r = host-refusals (call-zero text (BlameOwn text log)) BlameRefused blameParts (λ n l. refl) _ (blamed-told (length log) (blameIn text log)) (λ n l k j q. cc)
+            (blame-right text log) [] [] (blame-reads text log)
+            in
+            record { accepted = r .accepted; first = r .first; kept = λ n l f. refl };
+        breach = λ log number line f.
+            ap breachNumber (given-refused BlameRefused _ (refused-first (call-zero text (BlameOwn text log)) (blame-right text log) number line .1 f));
       }

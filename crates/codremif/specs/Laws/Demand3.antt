@@ -26,7 +26,7 @@ use Rattle.calls.specs.declared.answers.ListAnswer.the-variants.{Refused as Lis
 use Rattle.sorting.specs.declared.kinds.Kind.the-variants.{Must}
 use Rattle.calls.specs.declared.answers.SetAnswer.{SetAnswer}
 use Rattle.calls.specs.Answers.{rulesIn, systemIn, judgeIn, listIn, kindIn, textOutcome, judgeAnswer, listAnswer, listBytes, after}
-use Rattle.codremif.specs.Packing.{accepted, refused, judgeParts, listParts, setParts, packed}
+use Rattle.packing.specs.Packing.{accepted, refused, judgeParts, listParts, setParts, packed}
 use Rattle.codremif.specs.Demand3.{inRattle, forHosts, Asked, GivesList, Judges, TextDemand3, AsCalled, hostAsked}
 use Rattle.calls.specs.Laws.Answers.{list-numbers, list-enough, kind-given, given-refused}
 use Rattle.codremif.specs.Laws.Demand2.{judging-meets-demand2}

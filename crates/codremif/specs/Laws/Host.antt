@@ -8,7 +8,7 @@ use mathlib.Core.Bool.{Bool, true, false, not, cond}
 use mathlib.Core.List.{List}
 use native.Mathlib.Omega.{arith}
 use lib.Dec.{leb, ltb}
-use lib.ListN.{length}
+use lib.ListN.{length, getD}
 use lib.Pow.{pow-mono}
 use Rattle.sets.specs.Lists.{bytesOf}
 use Rattle.sets.specs.Orders.{isOrder}
@@ -16,21 +16,27 @@ use Rattle.models.specs.declared.model.Outcome.{Outcome}
 use Rattle.models.specs.declared.model.Outcome.the-variants.{Accepted, Refused}
 use Rattle.models.specs.Reading.{readModel}
 use Rattle.models.specs.Laws.Ranges.{Refusal, ranges}
+use Rattle.models.specs.Written.{modelIn}
 use Rattle.systems.specs.Verdict.{holds, traceOf}
+use Rattle.logs.specs.Log.{isLog}
+use Rattle.semantics.specs.Meaning.{initMet}
 use Rattle.sorting.specs.declared.which.WhichList.{WhichList}
 use Rattle.sorting.specs.declared.kinds.Kind.{Kind}
 use Rattle.calls.specs.declared.answers.JudgeAnswer.the-variants.{Refused as JudgeRefused, Holds, Broken}
 use Rattle.calls.specs.declared.answers.ReachedAnswer.the-variants.{Refused as ReachedRefused}
 use Rattle.calls.specs.declared.answers.ListAnswer.the-variants.{Refused as ListRefused}
 use Rattle.calls.specs.declared.answers.SetAnswer.the-variants.{Refused as SetRefused}
-use Rattle.calls.specs.Answers.{rulesIn, systemIn, traceIn, marksIn, pairsIn, listIn, kindIn, _orElse_, refusedIf, textOutcome, askedOutcome, judgeOutcome, reachedOutcome, listOutcome, given, verdictOf, judgeAnswer, reachedAnswer, listAnswer, kindAnswer}
+use Rattle.calls.specs.Answers.{rulesIn, statesIn, systemIn, traceIn, marksIn, pairsIn, listIn, kindIn, _orElse_, refusedIf, textOutcome, askedOutcome, judgeOutcome, reachedOutcome, listOutcome, given, verdictOf, judgeAnswer, reachedAnswer, listAnswer, kindAnswer}
 use Rattle.preferences.specs.declared.answer.OneCoreAnswer.the-variants.{Refused as OneCoreRefused, CoreFound, NoCore}
 use Rattle.preferences.specs.Answer.{orderOutcome, oneCoreOutcome, oneCoreIn, foundAnswer, oneCoreAnswer}
 use Rattle.preferences.specs.Laws.Answer.{one-core-fits}
-use Rattle.codremif.specs.Packing.{InRange, Parts, counted, accepted, refused, judgeParts, reachedParts, listParts, setParts, oneCoreParts, packed, Unpacked}
+use Rattle.blaming.specs.declared.answer.BlameAnswer.the-variants.{Refused as BlameRefused, BreachAt, NoBreach}
+use Rattle.blaming.specs.Answer.{blameIn, logOutcome, initOutcome, blameOutcome, blamedAnswer, blameAnswer}
+use Rattle.blaming.specs.Laws.Answer.{blame-fits}
+use Rattle.packing.specs.Packing.{InRange, Parts, counted, accepted, refused, judgeParts, reachedParts, listParts, setParts, oneCoreParts, blameParts, packed, Unpacked}
 use Rattle.calls.specs.Laws.Answers.{rules-most}
 use Rattle.calls.specs.Laws.Sizes.{trace-le, pairs-le, list-le, kind-lt}
-use Rattle.codremif.specs.Laws.Packing.{unpacked}
+use Rattle.packing.specs.Laws.Packing.{unpacked}
 
 -- ---- the numbers and lines of refusals
 
@@ -75,6 +81,13 @@ list-numbered which text lent =
 one-core-numbered : (text order : List ℕ) → Numbered (oneCoreOutcome text order)
 unfolding oneCoreOutcome orderOutcome
 one-core-numbered text order = orElse-numbered (text-numbered text) (refusedIf-numbered (not (isOrder (rulesIn text) order)) 13 (omega arith) (omega arith))
+
+blame-numbered : (text log : List ℕ) → Numbered (blameOutcome text log)
+unfolding blameOutcome logOutcome initOutcome
+blame-numbered text log =
+    orElse-numbered (text-numbered text)
+    (orElse-numbered (refusedIf-numbered (not (isLog (statesIn text) log)) 14 (omega arith) (omega arith))
+    (refusedIf-numbered (not (initMet (modelIn text) (getD log 0 0))) 15 (omega arith) (omega arith)))
 
 -- ---- what the host reads
 
@@ -145,3 +158,12 @@ one-core-reads text order =
     go : {S judgements : ℕ} → S < 65536 → judgements ≤ 17 → (b : Bool) → HostReads Accepted (oneCoreParts (cond b (CoreFound S judgements) (NoCore judgements)))
     go s j true = counted-reads _ true _ (omega arith) (omega arith)
     go s j false = counted-reads 0 false _ (omega arith) (omega arith)
+
+pub blame-reads : (text log : List ℕ) → HostReads (blameOutcome text log) (blameParts (blameAnswer text log))
+unfolding blameAnswer blamedAnswer blameParts
+blame-reads text log =
+    given-reads BlameRefused blameParts (λ number line. refl) _ (λ _. go (ltb (blameIn text log .place) (length log))) (blame-numbered text log)
+  where
+    go : (b : Bool) → HostReads Accepted (blameParts (cond b (BreachAt (blameIn text log .set) (blameIn text log .place)) (NoBreach (blameIn text log .set) (blameIn text log .place))))
+    go true = accepted-reads (blameIn text log .set) false (omega (arith, blame-fits text log))
+    go false = accepted-reads (blameIn text log .set) true (omega (arith, blame-fits text log))

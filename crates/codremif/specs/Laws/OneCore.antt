@@ -27,7 +27,7 @@ use Rattle.calls.specs.Laws.Answers.{rules-most}
 use Rattle.preferences.specs.declared.answer.OneCoreAnswer.the-variants.{CoreFound, NoCore}
 use Rattle.preferences.specs.Answer.{oneCoreIn, foundAnswer, oneCoreAnswer}
 use Rattle.preferences.specs.Laws.Answer.{one-core-given}
-use Rattle.codremif.specs.Packing.{counted, oneCoreParts, packed}
+use Rattle.packing.specs.Packing.{counted, oneCoreParts, packed}
 use Rattle.codremif.specs.Suffices.{TextTelling, textByAnswers, textByHosts}
 use Rattle.codremif.specs.OneCore.{OneCoreTelling, oneCoreByAnswers, oneCoreByHosts, StandsIn, InMyOrder}
 use Rattle.codremif.specs.Laws.Demand3.{monotone-in, by-call}
@@ -90,9 +90,9 @@ module _ (text : List ℕ) (model : textOutcome text ≡ Accepted) where
     everyOrder = λ lent e order o.
         let held = tells .judges text model .byCall (full R) (ones-lt R) lent .1 e in
         let c = one-core-held R h (monotone-in text) held order o in
-        (c .0, told .core text order (c .0) (R + 1) (core-is order o (c .3)), λ list r. rw (tells .wrote text model list r) (in-list (c .0) (c .1) (c .2)));
+        (c .0, told .core text order (c .0) (R + 1) (core-is order o (c .3)), λ list r. rw (tells .wrote text model Cores list r) (in-list (c .0) (c .1) (c .2)));
     someOrder = λ list r C s order o last.
-        let among = from-list C (rw (tells .wrote text model list r) at s) in
+        let among = from-list C (rw (tells .wrote text model Cores list r) at s) in
         told .core text order C (R + 1) (core-is order o (one-core-found R h (monotone-in text) C (among .rules) (among .itself) order o last));
     itsOrder = λ C. (outside-first R C, outside-first-last R C);
     fullBroken = λ lent n few e order o. told .noCore text order 1 (no-core-is order o (not-held lent n (tells .broken text (full R) lent n few .0 e)));

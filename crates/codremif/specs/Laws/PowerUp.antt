@@ -1,6 +1,6 @@
 -- What document 02 says of rules that speak about power-up is true of every accepted text. From demand 2, the start states of a model, and what a model
 -- with its missing start parts written out means.
-use Prim.Native.Nat.{ℕ, _^_, _≤_, _<_}
+use Prim.Native.Nat.{ℕ, suc, _^_, _≤_, _<_}
 use mathlib.Core.Path.{_≡_, refl, sym, ap, ap₂, _∙_, fun-ext}
 use mathlib.Core.Logic.{_↔_}
 use mathlib.Core.Bool.{true, not}
@@ -18,15 +18,17 @@ use Rattle.models.specs.declared.model.Outcome.the-variants.{Accepted}
 use Rattle.models.specs.Written.{Described, ruleAt, Legal, writtenModel, modelIn}
 use Rattle.models.specs.Changed.{startsWrittenOut}
 use Rattle.models.specs.Laws.Changed.{length-written-out, written-out-legal}
+use Rattle.models.specs.Accepted.{told-back}
 use Rattle.systems.specs.System.{System, last, Breach}
 use Rattle.systems.specs.Verdict.{holds, traceOf}
 use Rattle.systems.specs.Judged.{judged}
 use Rattle.systems.specs.Laws.Walks.{walk-one}
 use Rattle.systems.specs.Laws.Holds.{breach-broken}
-use Rattle.searches.specs.Search.{isMarked, search}
-use Rattle.semantics.specs.Meaning.{stepOf, badOf, systemOf, judge}
+use Rattle.traces.specs.Marked.{isMarked}
+use Rattle.searches.specs.Search.{search}
+use Rattle.semantics.specs.Meaning.{initMet, startMet, stepMet, propertyMet, stepOf, badOf, systemOf, judge}
 use Rattle.semantics.specs.Laws.Meaning.{start-iff, no-start-parts}
-use Rattle.semantics.specs.Laws.Changed.{written-out-system}
+use Rattle.semantics.specs.Laws.Changed.{written-out-start, written-out-step, written-out-system}
 use Rattle.sorting.specs.declared.which.WhichList.{WhichList}
 use Rattle.sorting.specs.declared.kinds.Kind.{Kind}
 use Rattle.sorting.specs.Which.{listed, ofKind}
@@ -37,6 +39,10 @@ use Rattle.calls.specs.declared.answers.ListAnswer.the-variants.{Refused as Lis
 use Rattle.calls.specs.declared.answers.SetAnswer.the-variants.{Refused as SetRefused, Set}
 use Rattle.preferences.specs.declared.answer.OneCoreAnswer.the-variants.{Refused as OneCoreRefused}
 use Rattle.preferences.specs.Answer.{oneCoreIn, orderOutcome, oneCoreOutcome, foundAnswer, oneCoreAnswer}
+use Rattle.logs.specs.Log.{isLog, blameOf}
+use Rattle.logs.specs.Laws.Log.{blame-same}
+use Rattle.blaming.specs.declared.answer.BlameAnswer.the-variants.{Refused as BlameRefused}
+use Rattle.blaming.specs.Answer.{blameIn, logOutcome, initOutcome, blameOutcome, blamedAnswer, blameAnswer}
 use Rattle.calls.specs.Answers.{rulesIn, statesIn, systemIn, judgeIn, traceIn, marksIn, pairsIn, listIn, kindIn, _orElse_, refusedIf, textOutcome, setOutcome, lengthOutcome, askedOutcome, judgeOutcome, reachedOutcome, listOutcome, given, after, verdictOf, judgeAnswer, judgeBytes, reachedAnswer, reachedBytes, listAnswer, listBytes, kindAnswer}
 use Rattle.codremif.specs.Demand2.{Demand2}
 use Rattle.codremif.specs.PowerUp.{MeetsAtStart, systemByInit, startsWrittenIn, SameAnswers, PowerUp}
@@ -45,9 +51,10 @@ use Rattle.codremif.specs.Laws.Written.{written-accepted, written-rules,
 
 -- ---- texts that mean the same
 
--- Two texts that are accepted alike, with as many rules and for each set of them the same system, have the same answers.
+-- Two texts that are accepted alike, with as many rules, for each set of them the same system, and for each log the same said, have the same answers.
 module _ (text first : List ℕ) (outcome : textOutcome text ≡ textOutcome first) (rules : rulesIn text ≡ rulesIn first)
-    (systems : (S : ℕ) → systemIn text S ≡ systemIn first S)
+    (systems : (S : ℕ) → systemIn text S ≡ systemIn first S) (init : (s : ℕ) → initMet (modelIn text) s ≡ initMet (modelIn first) s)
+    (blames : (log : List ℕ) → blameIn text log ≡ blameIn first log)
   where
     states-same : statesIn text ≡ statesIn first
     unfolding statesIn systemIn systemOf
@@ -102,8 +109,13 @@ module _ (text first : List ℕ) (outcome : textOutcome text ≡ textOutcome fir
     unfolding oneCoreOutcome orderOutcome
     order-same order = ap₂ _orElse_ outcome (ap (λ R. refusedIf (not (isOrder R order)) 13) rules)
 
+    log-same : (log : List ℕ) → blameOutcome text log ≡ blameOutcome first log
+    unfolding blameOutcome logOutcome initOutcome
+    log-same log =
+        ap₂ _orElse_ outcome (ap₂ (λ n met. refusedIf (not (isLog n log)) 14 orElse refusedIf (not met) 15) states-same (init (getD log 0 0)))
+
     same-answers : SameAnswers text first
-    unfolding judgeAnswer judgeBytes reachedAnswer reachedBytes listAnswer listBytes kindAnswer oneCoreAnswer
+    unfolding judgeAnswer judgeBytes reachedAnswer reachedBytes listAnswer listBytes kindAnswer oneCoreAnswer blameAnswer
     same-answers = record {
       judged = λ S lent. ap₂ (λ o M. given JudgeRefused o (verdictOf M)) (judge-same S lent) (systems S);
       traced = λ S lent. ap₂ (λ o l. after o l lent) (judge-same S lent) (trace-same S);
@@ -113,6 +125,7 @@ module _ (text first : List ℕ) (outcome : textOutcome text ≡ textOutcome fir
       listed = λ which lent. ap₂ (λ o l. after o (bytesOf l) lent) (listing-same which lent) (list-same which);
       sorted = λ kind. ap₂ (λ o S. given SetRefused o (Set S)) outcome (kind-same kind);
       ordered = λ order. ap₂ (λ o c. given OneCoreRefused o (foundAnswer c)) (order-same order) (core-same order);
+      blamed = λ log. ap₂ (λ o b. given BlameRefused o (blamedAnswer (length log) b)) (log-same log) (blames log);
     }
 
 -- ---- runs of one state
@@ -174,14 +187,27 @@ module _ (text : List ℕ) (model : textOutcome text ≡ Accepted) where
 
   -- ---- a missing start part
 
+  -- A log says the same of a model with its start parts written out.
+  said-of-written-out : (M : Described) → Legal (startsWrittenOut M) → (log : List ℕ)
+      → blameIn (writtenModel (startsWrittenOut M)) log ≡ blameOf (length (M .rules)) (startMet M) (stepMet M) (badOf M) log
+  unfolding blameIn rulesIn startsWrittenOut badOf propertyMet
+  said-of-written-out M l log =
+      ap (λ D. blameOf (length (D .rules)) (startMet D) (stepMet D) (badOf D) log) (told-back (startsWrittenOut M) l)
+      ∙ ap (λ (R : ℕ). blameOf R (startMet (startsWrittenOut M)) (stepMet (startsWrittenOut M)) (badOf M) log) (length-written-out M)
+      ∙ blame-same (length (M .rules)) (startMet (startsWrittenOut M)) (startMet M) (stepMet (startsWrittenOut M)) (stepMet M) (badOf M) (badOf M) log
+      (λ i h. written-out-start M i (getD log 0 0) h) (λ i k h g. written-out-step M i (getD log k 0) (getD log (suc k) 0) h)
+      (λ k h. refl)
+
   as-one : SameAnswers (startsWrittenIn text) text
-  unfolding startsWrittenIn rulesIn systemIn
+  unfolding startsWrittenIn rulesIn systemIn blameIn initMet startsWrittenOut
   as-one =
       let M : Described = modelIn text in
       let l : Legal (startsWrittenOut M) = written-out-legal M (told-legal text model) in
       same-answers (writtenModel (startsWrittenOut M)) text (written-accepted (startsWrittenOut M) l ∙ sym model)
       (written-rules (startsWrittenOut M) l ∙ length-written-out M)
       (λ S. written-system (startsWrittenOut M) l S ∙ written-out-system M S)
+      (λ s. ap (λ D. initMet D s) (told-back (startsWrittenOut M) l))
+      (said-of-written-out M l)
 
   as-before : ((i : ℕ) → i < rulesIn text → ruleAt (modelIn text .rules) i .start ≡ none) → (S : ℕ) → systemIn text S ≡ systemByInit (modelIn text) S
   unfolding systemIn systemOf systemByInit rulesIn

@@ -32,7 +32,7 @@ use Rattle.calls.specs.declared.answers.JudgeAnswer.the-variants.{Broken}
 use Rattle.calls.specs.Answers.{rulesIn, systemIn, judgeIn, listIn, textOutcome, judgeAnswer, judgeBytes}
 use Rattle.calls.specs.Laws.Answers.{judge-enough, verdict-broken}
 use Rattle.calls.specs.Laws.Sizes.{trace-le}
-use Rattle.codremif.specs.Packing.{accepted}
+use Rattle.packing.specs.Packing.{accepted}
 use Rattle.codremif.specs.Suffices.{TextTelling, textByAnswers, textByHosts}
 use Rattle.codremif.specs.Properties.{propertiesIn, textBy, judgementsBy, FirstShown, JointList, SeveralProperties}
 use Rattle.codremif.specs.Laws.Written.{written-accepted, written-rules, written-system, written-judge, told-legal}
@@ -179,7 +179,7 @@ module _ (text : List ℕ) (model : textOutcome text ≡ Accepted) where
       λ f. t .judges text model .byCall S set lent .0 (verdict-iff S .1 (λ j h. t .judges (textBy j text) (accepted-by j h) .byCall S (set-by j h S set) lent .1 (f j h))),
     );
     trace = λ S set lent n few e. first-shown w t S set lent n few (t .broken text S lent n few .0 e);
-    cores = λ list r. rw (t .wrote text model list r) joint-list;
+    cores = λ list r. rw (t .wrote text model Cores list r) joint-list;
   }
 
   -- The calls in Rattle, and the exported ones.

@@ -15,7 +15,8 @@ use Rattle.sets.specs.Laws.Tabulated.{getD-tabulate}
 use Rattle.models.specs.declared.model.Outcome.the-variants.{Accepted}
 use Rattle.models.specs.Written.{modelIn}
 use Rattle.systems.specs.System.{System}
-use Rattle.searches.specs.Search.{isMarked, search}
+use Rattle.traces.specs.Marked.{isMarked}
+use Rattle.searches.specs.Search.{search}
 use Rattle.searches.specs.Collecting.{Collecting}
 use Rattle.searches.specs.Laws.Collecting.{collecting, same-marks}
 use Rattle.semantics.specs.Meaning.{systemOf}
@@ -23,7 +24,7 @@ use Rattle.semantics.specs.Laws.Meaning.{step-zero}
 use Rattle.calls.specs.declared.answers.ReachedAnswer.the-variants.{Pairs}
 use Rattle.calls.specs.Answers.{Gives, rulesIn, statesIn, systemIn, marksIn, pairsIn, textOutcome, reachedAnswer, reachedBytes}
 use Rattle.calls.specs.Laws.Answers.{reached-enough, length-marks}
-use Rattle.codremif.specs.Packing.{accepted, reachedParts, packed}
+use Rattle.packing.specs.Packing.{accepted, reachedParts, packed}
 use Rattle.codremif.specs.Reached.{ReachedStates, EverythingReached}
 
 module _ (text : List ℕ) (model : textOutcome text ≡ Accepted) (S : ℕ) (set : S < 2 ^ rulesIn text) (lent : List ℕ) (enough : statesIn text ≤ length lent) where

@@ -37,7 +37,7 @@ use Rattle.sorting.specs.Which.{listed, ofKind}
 use Rattle.sorting.specs.declared.kinds.Kind.the-variants.{Must, May}
 use Rattle.calls.specs.declared.answers.JudgeAnswer.the-variants.{Holds}
 use Rattle.calls.specs.Answers.{rulesIn, judgeIn, listIn, kindIn, textOutcome, judgeAnswer}
-use Rattle.codremif.specs.Packing.{accepted, setParts, packed}
+use Rattle.packing.specs.Packing.{accepted, setParts, packed}
 use Rattle.codremif.specs.Relied.{InOneOf, SortedRules, namesIn, relevantIn, relevantModel, SameByName, Reducible, Replaceable, Relied}
 use Rattle.calls.specs.Laws.Answers.{kind-given}
 use Rattle.codremif.specs.Laws.Written.{written-accepted, written-rules, written-judge, told-legal}

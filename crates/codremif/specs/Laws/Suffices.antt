@@ -23,7 +23,7 @@ use Rattle.lookup.specs.Laws.Suffices.{Ways, odd-way, inside-way, apart-way, un
 use Rattle.lookup.specs.Laws.Lists.{held-said, broken-said}
 use Rattle.calls.specs.declared.answers.JudgeAnswer.the-variants.{Holds, Broken}
 use Rattle.calls.specs.Answers.{rulesIn, systemIn, judgeIn, traceIn, listIn, textOutcome, judgeAnswer, listBytes}
-use Rattle.codremif.specs.Packing.{InRange, accepted, refused, judgeParts, sufficesParts, witnessPlace, packed}
+use Rattle.packing.specs.Packing.{InRange, accepted, refused, judgeParts, sufficesParts, witnessPlace, packed}
 use Rattle.codremif.specs.Demand3.{inRattle, forHosts, GivesList}
 use Rattle.codremif.specs.Suffices.{hostSaid, byHosts, bytesAt, Witnessed, TextTelling, textByAnswers, textByHosts, WroteList, Agrees, QuickAnswer}
 use Rattle.calls.specs.Laws.Answers.{rules-most, judge-enough, verdict-broken}
@@ -144,7 +144,7 @@ module _ (text : List ℕ) (model : textOutcome text ≡ Accepted) where
     held-judged : judgeIn text S ≡ true → (lent : List ℕ) → judgeAnswer text S lent ≡ Holds
     held-judged e lent = by-call text model S rules lent .0 e
 
-    broken-judged : judgeIn text S ≡ false → (lent : List ℕ) → 128 ≤ length lent → (n : ℕ) × (n ≤ 128) × (judgeAnswer text S lent ≡ Broken n)
+    pub broken-judged : judgeIn text S ≡ false → (lent : List ℕ) → 128 ≤ length lent → (n : ℕ) × (n ≤ 128) × (judgeAnswer text S lent ≡ Broken n)
     unfolding judgeIn judge systemIn traceIn
     broken-judged e lent h =
         (length (traceIn text S), trace-le text S, judge-enough text model S lent rules (omega (arith, trace-le text S)) .says ∙ verdict-broken (systemIn text S) e)

@@ -1,4 +1,4 @@
--- How the calls in Rattle and the exported ones tell their answers: that a set holds or is broken, and which core list was written.
+-- How the calls in Rattle and the exported ones tell their answers: that a set holds or is broken, and which list was written.
 -- From what a host reads off a packed answer. Assumes nothing.
 use Prim.Native.Nat.{ℕ, _*_, _≤_}
 use mathlib.Core.Path.{_≡_, refl, sym, ap, _∙_}
@@ -7,12 +7,12 @@ use mathlib.Core.List.{List}
 use native.Mathlib.Omega.{arith}
 use Rattle.sets.specs.Lists.{bytesOf}
 use Rattle.models.specs.declared.model.Outcome.the-variants.{Accepted}
-use Rattle.sorting.specs.declared.which.WhichList.the-variants.{Cores}
+use Rattle.sorting.specs.declared.which.WhichList.{WhichList}
 use Rattle.calls.specs.declared.answers.JudgeAnswer.{JudgeAnswer}
 use Rattle.calls.specs.declared.answers.JudgeAnswer.the-variants.{Refused as JudgeRefused, Holds, Broken}
 use Rattle.calls.specs.Answers.{systemIn, judgeIn, listIn, textOutcome, verdictOf, judgeAnswer}
 use Rattle.calls.specs.Laws.Answers.{given-accepted, not-refused}
-use Rattle.codremif.specs.Packing.{accepted, refused, judgeParts, packed}
+use Rattle.packing.specs.Packing.{accepted, refused, judgeParts, packed}
 use Rattle.codremif.specs.Demand3.{inRattle, forHosts, Judges}
 use Rattle.codremif.specs.Suffices.{TextTelling, textByAnswers, textByHosts, WroteList}
 use Rattle.codremif.specs.Laws.Host.{judge-reads}
@@ -23,14 +23,14 @@ use Rattle.codremif.specs.Laws.Suffices.{answer-wrote, host-wrote}
 pub record Tells {J L M : Type 0} (w : TextTelling J L M) : Type 0 where
   pub judges : (text : List ℕ) → textOutcome text ≡ Accepted → Judges (w .calls) text (judgeIn text)
   pub broken : (text : List ℕ) (S : ℕ) (lent : List ℕ) (n : ℕ) → n ≤ 128 → (w .calls .judge text S lent ≡ w .broken n) ↔ (judgeAnswer text S lent ≡ Broken n)
-  pub wrote : (text : List ℕ) → textOutcome text ≡ Accepted → (list : List ℕ) → WroteList w Cores text list → list ≡ bytesOf (listIn Cores text)
+  pub wrote : (text : List ℕ) → textOutcome text ≡ Accepted → (which : WhichList) (list : List ℕ) → WroteList w which text list → list ≡ bytesOf (listIn which text)
 
 pub answers-tell : Tells textByAnswers
 unfolding textByAnswers inRattle
 answers-tell = record {
   judges = judges-in;
   broken = λ text S lent n _. (λ e. e, λ e. e);
-  wrote = λ text model list r. answer-wrote text model Cores list r;
+  wrote = answer-wrote;
 }
 
 -- A refusal has a number other than 0.
@@ -60,5 +60,5 @@ unfolding textByHosts forHosts
 hosts-tell = record {
   judges = judges-packed;
   broken = broken-packed;
-  wrote = λ text model list r. host-wrote text model Cores list r;
+  wrote = host-wrote;
 }

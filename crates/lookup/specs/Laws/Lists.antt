@@ -62,7 +62,7 @@ module _ (R : ℕ) (h : ℕ → Bool) (few : R ≤ 16) where
   pub core-small : (C : ℕ) → C ∈ coresOf R h → C < 65536
   core-small C m = omega (arith, coresOf-lists R h .only C m .rules, pow-mono few)
 
-  cut-small : (C : ℕ) → C ∈ cutsOf R h → C < 65536
+  pub cut-small : (C : ℕ) → C ∈ cutsOf R h → C < 65536
   cut-small C m = omega (arith, cutsOf-lists R h .only C m .rules, pow-mono few)
 
   even-lists : EvenCounts (bytesOf (coresOf R h)) (bytesOf (cutsOf R h))

@@ -8,8 +8,8 @@ use native.Mathlib.Decide.{ℕ-discrete, decLt}
 use native.Mathlib.Omega.{arith}
 use borrow.Author.Tests.{eq-eqb, ne-eqb, lt-ltb, le-ltb}
 use lib.ListN.{length}
+use Rattle.bodies.specs.declared.progress.Progress.{Progress}
 use Rattle.models.specs.declared.model.Reading.{Reading}
-use Rattle.models.specs.declared.progress.Progress.{Progress}
 use Rattle.models.specs.Reading.{refusedReading, acceptedReading, finished}
 
 module _ (text : List ℕ) (vars rules init properties : ℕ) (r : Progress) where

@@ -23,12 +23,12 @@ use Rattle.lines.specs.Laws.Bytes.{all-append}
 use Rattle.lines.specs.Laws.Expressions.{legal-in-line}
 use Rattle.lines.specs.Laws.Heard.{Heard, fault, said, state-heard}
 use Rattle.lines.specs.Laws.Lines.{prop-reads, line-append, line-there}
-use Rattle.models.specs.declared.progress.LineStart.{LineStart}
-use Rattle.models.specs.declared.progress.Progress.{Progress}
-use Rattle.models.specs.Properties.{afterLine, leading, propertyCount}
-use Rattle.models.specs.Reading.{noneRead, propertied, nextProperty, propertiesRead}
+use Rattle.bodies.specs.declared.progress.LineStart.{LineStart}
+use Rattle.bodies.specs.declared.progress.Progress.{Progress}
+use Rattle.bodies.specs.Properties.{afterLine, leading, propertyCount}
+use Rattle.bodies.specs.Body.{noneRead, propertied, nextProperty, propertiesRead}
+use Rattle.bodies.specs.Laws.Lines.{line-seam}
 use Rattle.models.specs.Written.{propertyAt, writtenProperty}
-use Rattle.models.specs.Laws.Lines.{line-seam}
 use Rattle.models.specs.Laws.Lists.{at-more, flatMap-more, flatMap-at, behind, one-behind}
 use Rattle.models.specs.Laws.Rules.{PlaceArrays, unnumbered}
 

@@ -22,16 +22,18 @@ use Rattle.lines.specs.Laws.Bytes.{all-append}
 use Rattle.slices.specs.Laws.Same.{same-is}
 use Rattle.lines.specs.Laws.Lines.{line-append}
 use Rattle.rule_lines.specs.Laws.RuleLines.{rule-in-line, ruleKey-in-line}
-use Rattle.models.specs.declared.progress.LineStart.{LineStart}
+use Rattle.bodies.specs.declared.progress.LineStart.{LineStart}
+use Rattle.bodies.specs.declared.progress.Progress.{Progress}
+use Rattle.bodies.specs.Properties.{afterLine, propertyCount}
+use Rattle.bodies.specs.Body.{behindLine, noneRead, unlessRefused, propertied, nextProperty, propertiesRead, ruled, nextRule, rulesRead}
+use Rattle.bodies.specs.Laws.Lines.{line-dropped, line-seam}
 use Rattle.models.specs.declared.model.Outcome.{Outcome}
 use Rattle.models.specs.declared.model.Outcome.the-variants.{Accepted, Refused}
 use Rattle.models.specs.declared.model.Reading.{Reading}
-use Rattle.models.specs.declared.progress.Progress.{Progress}
-use Rattle.models.specs.Properties.{afterLine, propertyCount}
-use Rattle.models.specs.Reading.{textStart, behindLine, noneRead, unlessRefused, propertied, nextProperty, propertiesRead, ruled, nextRule, rulesRead, refusedReading, following, finished, readModel}
+use Rattle.models.specs.Reading.{textStart, refusedReading, following, finished, readModel}
 use Rattle.models.specs.Written.{ruleAt}
 use Rattle.models.specs.Refusals.{afterLines, vars-line, rules-line, firstRuleLine, init-line, prop-line, IsN, IsR, HasName, FitsAt, bytes-follow, First}
-use Rattle.models.specs.Laws.Lines.{lines-more, lines-add, line-dropped, line-seam}
+use Rattle.models.specs.Laws.Lines.{lines-more, lines-add}
 use Rattle.models.specs.Laws.Finished.{by-last}
 use Rattle.models.specs.Laws.Ranges.{place₂, place₃, place₄}
 use Rattle.models.specs.Laws.Rules.{taken-back, PlaceArrays, Ruled, rules-back}

@@ -27,8 +27,8 @@ use Rattle.rule_lines.specs.Laws.Heard.{RuleHeard, rule-fault, rule-said, rule-
 use Rattle.lines.specs.Laws.Lines.{line-append}
 use Rattle.rule_lines.specs.Laws.Parts.{startBehind, parts-there}
 use Rattle.rule_lines.specs.Laws.RuleLines.{rule-reads}
-use Rattle.models.specs.declared.progress.Progress.{Progress}
-use Rattle.models.specs.Reading.{unlessRefused, ruled, nextRule, rulesRead}
+use Rattle.bodies.specs.declared.progress.Progress.{Progress}
+use Rattle.bodies.specs.Body.{unlessRefused, ruled, nextRule, rulesRead}
 use Rattle.models.specs.Written.{ruleAt}
 use Rattle.models.specs.Laws.Lists.{at-more, flatMap-more, flatMap-at, behind, one-behind}
 

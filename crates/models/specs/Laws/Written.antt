@@ -20,16 +20,18 @@ use Rattle.lines.specs.Written.{Rule, Within, LegalExpr, LegalStart, LegalRule,
 use Rattle.lines.specs.Laws.Decimal.{decimal-short}
 use Rattle.lines.specs.Laws.Expressions.{letters-more}
 use Rattle.lines.specs.Laws.Lines.{Reads, vars-reads, rules-reads, init-reads, line-append, length-line}
+use Rattle.bodies.specs.declared.progress.LineStart.{LineStart}
+use Rattle.bodies.specs.declared.progress.Progress.{Progress}
+use Rattle.bodies.specs.Properties.{propertyCount}
+use Rattle.bodies.specs.Body.{behindLine, propertiesRead, nextRule, rulesRead}
+use Rattle.bodies.specs.Laws.Ranges.{properties-le, properties-some}
 use Rattle.models.specs.declared.model.Model.{Model}
 use Rattle.models.specs.declared.model.Outcome.the-variants.{Accepted}
-use Rattle.models.specs.declared.progress.LineStart.{LineStart}
 use Rattle.models.specs.declared.model.Reading.{Reading}
-use Rattle.models.specs.declared.progress.Progress.{Progress}
-use Rattle.models.specs.Properties.{propertyCount}
-use Rattle.models.specs.Reading.{textStart, behindLine, propertiesRead, nextRule, rulesRead, refusedReading, following, onLine, finished, readModel}
+use Rattle.models.specs.Reading.{textStart, refusedReading, following, onLine, finished, readModel}
 use Rattle.models.specs.Written.{Described, propertyAt, ruleAt, Legal, writtenProperty, writtenModel, orFalse, exprAt, propertyIn, startAt, ruleIn, described}
 use Rattle.models.specs.Laws.Finished.{last-numbers, by-last}
-use Rattle.models.specs.Laws.Ranges.{place₂, place₃, place₄, properties-le, properties-some}
+use Rattle.models.specs.Laws.Ranges.{place₂, place₃, place₄}
 use Rattle.models.specs.Laws.Lists.{behind}
 use Rattle.models.specs.Laws.Rules.{StartStands, no-start, some-start, LegalRules, Upto, unnumbered, rules-back, rules-there}
 use Rattle.models.specs.Laws.Properties.{LegalEach, count-there, rule-no-property, properties-room, Stated, properties-back, properties-there}

@@ -18,7 +18,8 @@ use Rattle.systems.specs.Laws.Count.{count-all, count-less, count-same}
 use Rattle.systems.specs.Laws.Compare.{Same}
 use Rattle.systems.specs.Laws.Walks.{walk-last}
 use Rattle.systems.specs.System.{System, last}
-use Rattle.searches.specs.Search.{Collection, isMarked, tryState, startsBelow, pairTried, tryPair, tryRow, explored, search}
+use Rattle.traces.specs.Marked.{isMarked}
+use Rattle.searches.specs.Search.{Collection, tryState, startsBelow, pairTried, tryPair, tryRow, explored, search}
 use Rattle.searches.specs.Stored.{reachedOf}
 use Rattle.searches.specs.Collecting.{Collecting}
 use Rattle.searches.specs.Laws.Search.{explored-collected, explored-closed, search-collected, search-ended, marks}

@@ -24,7 +24,8 @@ use Rattle.systems.specs.Laws.Walks.{walk-one, walk-snoc, walk-last, last-snoc}
 use Rattle.systems.specs.Verdict.{holds, traceOf}
 use Rattle.systems.specs.Judged.{judged}
 use Rattle.systems.specs.Laws.Holds.{holds-iff}
-use Rattle.searches.specs.Search.{Collection, isMarked, tryState, startsBelow, pairTried, tryPair, tryRow, explored, search}
+use Rattle.traces.specs.Marked.{isMarked}
+use Rattle.searches.specs.Search.{Collection, tryState, startsBelow, pairTried, tryPair, tryRow, explored, search}
 use Rattle.searches.specs.Laws.Sooner.{Sooner, sooner-trans, sooner-snoc, sooner-last, walk-grows, NoLater, no-later-trans, no-later-snoc, no-later-length, no-later-first}
 use Rattle.searches.specs.Laws.SearchSteps.{RunTo, isMarked-nil, isMarked-snoc, isMarked-at, isMarked-run, tryState-taken, tryState-fails, tryState-marked, by-pair, explored-zero, by-run, explored-stays}
 

@@ -15,7 +15,8 @@ use lib.ListN.{length, getD, length-append}
 use Rattle.sets.specs.Gathered.{one}
 use Rattle.systems.specs.Count.{count}
 use Rattle.systems.specs.System.{System, last}
-use Rattle.searches.specs.Search.{Collection, isMarked, tryState, startsBelow, pairTried, tryPair, tryRow, explored}
+use Rattle.traces.specs.Marked.{isMarked}
+use Rattle.searches.specs.Search.{Collection, tryState, startsBelow, pairTried, tryPair, tryRow, explored}
 
 -- ---- marks
 

@@ -13,7 +13,8 @@ use Rattle.sets.specs.Tabulated.{tabulate}
 use Rattle.sets.specs.Laws.Tabulated.{length-tabulate, getD-tabulate}
 use Rattle.systems.specs.Count.{count}
 use Rattle.systems.specs.System.{System, Reached}
-use Rattle.searches.specs.Search.{isMarked, search}
+use Rattle.traces.specs.Marked.{isMarked}
+use Rattle.searches.specs.Search.{search}
 use Rattle.searches.specs.Stored.{reachedOf}
 use Rattle.systems.specs.Laws.Count.{count-past, count-same}
 use Rattle.searches.specs.Laws.Search.{collected-states, search-collected, marks}

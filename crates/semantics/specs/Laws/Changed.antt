@@ -102,7 +102,16 @@ module _ (M : Described) where
   start-as-one s none = refl
   start-as-one s (some e) = refl
 
-  -- A set has the system that it had.
+  -- Each rule has the parts that it had,
+  pub written-out-start : (i s : ℕ) → i < length (M .rules) → startMet (startsWrittenOut M) i s ≡ startMet M i s
+  unfolding startMet startWrittenOut
+  written-out-start i s h = ap (λ r. startPartMet (r .start) s) (rule-written-out M i h) ∙ start-as-one s (ruleAt (M .rules) i .start)
+
+  pub written-out-step : (i s t : ℕ) → i < length (M .rules) → stepMet (startsWrittenOut M) i s t ≡ stepMet M i s t
+  unfolding stepMet startWrittenOut
+  written-out-step i s t h = ap (λ r. value (r .step) s t) (rule-written-out M i h)
+
+  -- and a set the system that it had.
   pub written-out-system : (S : ℕ) → systemOf (startsWrittenOut M) S ≡ systemOf M S
   unfolding systemOf startOf initMet startMet stepOf stepMet badOf propertyMet startsWrittenOut startWrittenOut
   written-out-system S =

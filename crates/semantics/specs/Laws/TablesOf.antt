@@ -80,11 +80,11 @@ module _ (before : List ℕ) (M : Described) (few : M .vars ≤ 7) (room : 128 *
   entry s t a b = row-at before (states + 1) states (maskRow M) room s t a b (states-le (M .vars) few)
 
   -- The entry of a pair of states is its mask, and the entry of a state behind those its start mask.
-  mask-at : (s t : ℕ) → s < states → t < states → getD (masksOf before M) (128 * s + t) 0 ≡ maskOf M s t
+  pub mask-at : (s t : ℕ) → s < states → t < states → getD (masksOf before M) (128 * s + t) 0 ≡ maskOf M s t
   unfolding maskRow
   mask-at s t a b = entry s t (omega arith) b ∙ rw (lt-ltb s states a)
 
-  start-mask-at : (t : ℕ) → t < states → getD (masksOf before M) (128 * states + t) 0 ≡ startMaskOf M t
+  pub start-mask-at : (t : ℕ) → t < states → getD (masksOf before M) (128 * states + t) 0 ≡ startMaskOf M t
   unfolding maskRow
   start-mask-at t b = entry states t (omega arith) b ∙ rw (le-ltb states states (omega arith))
 

@@ -4,6 +4,7 @@ use Prim.Native.Nat.{ℕ, zero, suc, _+_, _-_, _%_, _^_, _<_}
 use mathlib.Core.Path.{_≡_, refl, sym, ap, _∙_}
 use mathlib.Core.Logic.{_⊎_, inl, inr, ⊎-elim}
 use mathlib.Core.Bool.{Bool, true, false, not, _&&_, _||_, Bool·beq, Bool·not-not, false≢true, and-eq-true-iff}
+use mathlib.Mathlib.Data.Bool.Basic.{or-inl, or-inr}
 use native.Mathlib.Omega.{arith}
 use native.Mathlib.Decide.{ℕ-discrete}
 use native.Mathlib.Nat.{pow-suc}
@@ -13,7 +14,7 @@ use lib.Dec.{eqb}
 use lib.Arith.{digits-lt}
 use lib.Bits.{bitAnd, bitOr, bitXor, and-lt, or-lt, xor-lt}
 use lib.Pow.{high, low, pow-pos, pow-mono, ones-lt, ones-sub-lt}
-use Rattle.sets.specs.Laws.Choice.{alike}
+use Rattle.sets.specs.Laws.Choice.{alike, either}
 use Rattle.sets.specs.Bit.{has, full}
 use Rattle.sets.specs.Laws.Bit.{has-low, has-and, has-or, has-xor, has-le, has-below, has-zero, has-full, has-rest}
 use Rattle.sets.specs.Gathered.{one, setOf}
@@ -88,17 +89,8 @@ setOf-all n = is-setOf n (full n) (λ i. true) (ones-lt n) (λ i l. has-full n i
 
 pub or-has : (S T i : ℕ) → has (bitOr S T) i ≡ (has S i || has T i)
 or-has S T i =
-    alike (has (bitOr S T) i) (has S i || has T i) (λ e. joined (has S i) (has T i) (has-or S T i .0 e))
+    alike (has (bitOr S T) i) (has S i || has T i) (λ e. ⊎-elim (or-inl (has S i) (has T i)) (or-inr (has S i) (has T i)) (has-or S T i .0 e))
     (λ e. has-or S T i .1 (either (has S i) (has T i) e))
-  where
-    joined : (a b : Bool) → (a ≡ true) ⊎ (b ≡ true) → (a || b) ≡ true
-    joined true b e = refl
-    joined false b (inl e) = absurd (false≢true e)
-    joined false b (inr e) = e
-
-    either : (a b : Bool) → (a || b) ≡ true → (a ≡ true) ⊎ (b ≡ true)
-    either true b e = inl refl
-    either false b e = inr e
 
 pub and-has : (S T i : ℕ) → has (bitAnd S T) i ≡ (has S i && has T i)
 and-has S T i =

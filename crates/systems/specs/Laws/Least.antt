@@ -1,11 +1,15 @@
 -- The laws by which proofs use `least` and `any`: which number is the least one, that there is one only, and when some number passes.
 -- From the definitions. Assumes nothing.
-use Prim.Native.Nat.{ℕ, zero, suc, _≤_, _<_}
-use mathlib.Core.Path.{_≡_, refl, sym, _∙_}
-use mathlib.Core.Bool.{Bool, true, false, true≢false}
-use mathlib.Mathlib.Data.Bool.Basic.{eq-false-of-not-eq-true}
+use Prim.Native.Nat.{ℕ, zero, suc, _+_, _≤_, _<_}
+use mathlib.Core.Path.{_≡_, refl, sym, ap, _∙_}
+use mathlib.Core.Logic.{⊎-elim}
+use mathlib.Core.Bool.{Bool, true, false, _||_, true≢false}
+use mathlib.Mathlib.Data.Bool.Basic.{or-inl, or-inr, eq-false-of-not-eq-true}
+use native.Mathlib.Nat.{eq-or-lt-of-le}
 use native.Mathlib.Omega.{arith}
 use borrow.Author.Tests.{ltb-true, lt-ltb}
+use lib.Dec.{ltb}
+use Rattle.sets.specs.Laws.Choice.{alike, either}
 use Rattle.systems.specs.Least.{least, any}
 
 -- m is the least number below n that passes p, or n if none does.
@@ -67,3 +71,26 @@ any-elim n p e =
 
 pub any-none : (n : ℕ) (p : ℕ → Bool) → ((k : ℕ) → k < n → p k ≡ false) → any n p ≡ false
 any-none n p none = eq-false-of-not-eq-true (λ e. true≢false (sym (any-elim n p e .1) ∙ none (least n p) (any-elim n p e .0)))
+
+-- Tests that agree below the bound.
+pub any-same : (n : ℕ) {p q : ℕ → Bool} → ((k : ℕ) → k < n → p k ≡ q k) → any n p ≡ any n q
+unfolding any
+any-same n same = ap (λ (m : ℕ). ltb m n) (least-same refl same)
+
+-- One number more.
+pub any-next : (n : ℕ) (p : ℕ → Bool) → (any n p || p n) ≡ any (n + 1) p
+any-next n p = alike (any n p || p n) (any (n + 1) p) (λ e. ⊎-elim old new (either (any n p) (p n) e)) back
+  where
+    old : any n p ≡ true → any (n + 1) p ≡ true
+    old e = let (h, f) = any-elim n p e in any-intro (n + 1) p (least n p) (omega arith) f
+
+    new : p n ≡ true → any (n + 1) p ≡ true
+    new e = any-intro (n + 1) p n (omega arith) e
+
+    back : any (n + 1) p ≡ true → (any n p || p n) ≡ true
+    back e =
+        let (h, f) = any-elim (n + 1) p e in
+        ⊎-elim
+        (λ i. or-inr (any n p) (p n) (ap p (sym i) ∙ f))
+        (λ i. or-inl (any n p) (p n) (any-intro n p (least (n + 1) p) i f))
+        (eq-or-lt-of-le {n = least (n + 1) p} {m = n} (omega arith))

@@ -14,11 +14,13 @@ use codremif_host::calls;
 use codremif_host::compare::place_in;
 use codremif_host::judgements;
 use codremif_host::plain::answers::{judge, list_bytes, reached, write_list};
+use codremif_host::plain::blame::blame;
 use codremif_host::plain::lookup;
 use codremif_host::plain::one_core::one_core;
 use codremif_host::plain::sets::{irrelevant, may, must, Verdicts};
 use codremif_host::plain::system::TransitionSystem;
 use codremif_host::plain::text::{self, Model};
+use codremif_host::random::logs;
 use codremif_host::random::models::{full_counter, model_of, Kind};
 use codremif_host::random::start_parts::{with_start_part_everywhere, with_start_parts};
 use codremif_host::random::written::{join, later, now, pad, Written, WrittenRule};
@@ -43,7 +45,9 @@ fn main() {
     table("Growing N, 16 rules", (1..=7).map(|bits| growing(bits, 16)).collect());
     table("Growing R, 7 bits", (1..=16).map(|rules| growing(7, rules)).collect());
     table_of_weak_sets();
-    table_of_one_core(samples);
+    table_of_one_core(samples.clone());
+    table_of_blame(samples);
+    table_of_long_logs();
     table_of_properties();
     table_of_start_parts();
     table_of_lookups();
@@ -53,9 +57,8 @@ fn main() {
     println!("'judged' is how many sets a list call judges; the plain search judges all 2^R, and MUST takes R + 1 at most.");
     println!("The judge call is given the full set where no set is named. All answers of the two sides were alike.");
     println!("Of weak sets, 'in full' is 128 pairs for each reached state: so many are tried without the early end.");
-    println!(
-        "Next to MUST, 'ratio' is the time of one core divided by that of MUST; at most 1.1 is asked for."
-    );
+    println!("Next to MUST, 'ratio' is the time of one core, or of a call on a log, divided by that of MUST; at most 1.1 is asked for.");
+    println!("On a log of a million states, times are nanoseconds for each state beyond the first; at most 3 are asked for.");
     println!("Next to one property, 'ratio' is the time with four divided by the time with one; at most 1.2 is asked for.");
     println!("Next to none, 'ratio' is the time with start parts divided by the time without them.");
     println!(
@@ -287,6 +290,110 @@ fn row_of_one_core(case: &Case) -> String {
     )
 }
 
+/// A minute of a station's log: any states, of which the first meets `init`. None if no state does.
+fn minute(system: &TransitionSystem) -> Option<Vec<u8>> {
+    logs::log(&mut Random::new(60), system, logs::Kind::Any, 60)
+}
+
+fn table_of_blame(samples: Vec<Case>) {
+    println!("Blame from a log of 60 states, next to the plain search and next to MUST");
+    println!(
+        "{:<22} {:>1} {:>2} |{} |{} |{} |{}",
+        "model",
+        "N",
+        "R",
+        heading("blame"),
+        heading("breach"),
+        heading_next_to("blame", "MUST"),
+        heading_next_to("breach", "MUST")
+    );
+    let by_size = SIZES.map(|(bits, rules)| growing(bits, rules));
+    for case in samples.into_iter().chain(largest_models()).chain(by_size) {
+        match minute(&TransitionSystem::of(&read(&case.text))) {
+            Some(log) => println!("{}", row_of_blame(&case, &log)),
+            None => println!("{}: left out, no state meets `init`", case.name),
+        }
+    }
+    println!();
+}
+
+fn row_of_blame(case: &Case, log: &[u8]) -> String {
+    let text = &case.text[..];
+    let Model { bits, rules, .. } = read(text);
+    let broken =
+        timed(|| calls::broken_rules(text, log), || broken_rules(&TransitionSystem::of(&read(text)), log));
+    let place =
+        timed(|| calls::breach_place(text, log), || breach_place(&TransitionSystem::of(&read(text)), log));
+    format!(
+        "{:<22} {bits:>1} {:>2} |{broken} |{place} |{} |{}",
+        case.name,
+        rules.len(),
+        in_turns(|| calls::broken_rules(text, log), || calls::must(text)),
+        in_turns(|| calls::breach_place(text, log), || calls::must(text))
+    )
+}
+
+/// What each of the two calls on a log gives, by the plain search.
+fn broken_rules(system: &TransitionSystem, log: &[u8]) -> Result<(u16, bool), Refused> {
+    blame(system, log).map(|said| (said.broken, said.breach.place() < log.len()))
+}
+
+fn breach_place(system: &TransitionSystem, log: &[u8]) -> Option<usize> {
+    blame(system, log).ok().map(|said| said.breach.place())
+}
+
+/// A run of the full set, where it has one so long, and any states.
+fn table_of_long_logs() {
+    const STATES: usize = 1_000_000;
+    println!("Blame from a log of a million states, beyond the time of a log of one");
+    println!(
+        "{:<22} {:>1} {:>2} {:<10} |{} |{}",
+        "model",
+        "N",
+        "R",
+        "log",
+        heading("blame"),
+        heading("breach")
+    );
+    let models = ["clauses, few cores", "alternatives, hundreds", "dense, hundreds", "counter, trace of 128"];
+    let largest = largest_models().into_iter().filter(|case| models.contains(&case.name.as_str()));
+    for case in SIZES.map(|(bits, rules)| growing(bits, rules)).into_iter().chain(largest) {
+        let model = read(&case.text);
+        let system = TransitionSystem::of(&model);
+        for (name, kind) in [("a run", logs::Kind::Run), ("any states", logs::Kind::Any)] {
+            let log = logs::log(&mut Random::new(1_000_000), &system, kind, STATES);
+            if let Some(log) = log.filter(|log| log.len() == STATES) {
+                let (bits, rules) = (model.bits, model.rules.len());
+                let row = row_of_a_long_log(&case.text, &system, &log);
+                println!("{:<22} {bits:>1} {rules:>2} {name:<10} {row}", case.name);
+            }
+        }
+    }
+    println!();
+}
+
+fn row_of_a_long_log(text: &[u8], system: &TransitionSystem, log: &[u8]) -> String {
+    let broken = beyond_one_state(log, |log| calls::broken_rules(text, log), |log| broken_rules(system, log));
+    let place = beyond_one_state(log, |log| calls::breach_place(text, log), |log| breach_place(system, log));
+    let more = log.len() - 1;
+    format!("|{} |{}", broken.for_each_of(more), place.for_each_of(more))
+}
+
+/// How much longer a log takes than its first state alone.
+fn beyond_one_state<T: PartialEq + std::fmt::Debug>(
+    log: &[u8],
+    library: impl Fn(&[u8]) -> T,
+    plain: impl Fn(&[u8]) -> T,
+) -> Timed<T> {
+    let all = timed(|| library(log), || plain(log));
+    let one = timed(|| library(&log[..1]), || plain(&log[..1]));
+    Timed {
+        answer: all.answer,
+        library: all.library.saturating_sub(one.library),
+        plain: all.plain.saturating_sub(one.plain),
+    }
+}
+
 /// The same model in two texts: with four properties, and with one property that is their conjunction.
 struct Conjoined {
     name: String,
@@ -501,9 +608,9 @@ struct Timed<T> {
 }
 
 impl<T> Timed<T> {
-    /// The nanoseconds for each of so many sets, and the ratio.
-    fn for_each_of(&self, sets: usize) -> String {
-        let nanoseconds = |time: Duration| time.as_secs_f64() * 1e9 / sets as f64;
+    /// The nanoseconds for each of so many sets or states, and the ratio.
+    fn for_each_of(&self, count: usize) -> String {
+        let nanoseconds = |time: Duration| time.as_secs_f64() * 1e9 / count as f64;
         let (library, plain) = (nanoseconds(self.library), nanoseconds(self.plain));
         format!(" {library:>9.3} {plain:>9.3} {:>7.2}", plain / library)
     }

@@ -7,11 +7,13 @@
 //! * [`reached`]: the reached states of a set, in the order of marking, and the pairs that are tried for them.
 //! * [`sets`]: every rule set judged; cores, cuts, MUST, MAY and the irrelevant rules by definition.
 //! * [`one_core`]: one core in the caller's order, and the judgements that it takes.
+//! * [`blame`]: the rules that are broken in a log, and the first state of it that breaks a property.
 //! * [`answers`]: the calls that read a text.
 //! * [`lookup`]: the calls that read none, but a core list and a cut list.
 //! * [`report`]: the report, as bytes.
 
 pub mod answers;
+pub mod blame;
 pub mod expression;
 pub mod lookup;
 pub mod one_core;

@@ -47,7 +47,7 @@ fn verdict(system: &TransitionSystem) -> Vec<String> {
 }
 
 /// A set as names in the model's order with commas; the empty set is `-`.
-fn names(model: &Model, set: u16) -> String {
+pub fn names(model: &Model, set: u16) -> String {
     let in_set = model.rules.iter().enumerate().filter(|(place, _)| set >> place & 1 == 1);
     let names: Vec<_> = in_set.map(|(_, rule)| String::from_utf8_lossy(&rule.name)).collect();
     if names.is_empty() {

@@ -59,8 +59,13 @@ impl TransitionSystem {
 
     /// The start states of a set are those that meet `init` and the start part of each rule in the set.
     pub fn start_states(&self, set: u16) -> Vec<bool> {
-        let is_start = |state: usize| self.init[state] && self.met_at_start[state] & set == set;
+        let is_start = |state: usize| self.init[state] && self.meets_start_parts(set, state);
         (0..self.states).map(is_start).collect()
+    }
+
+    /// Whether a state meets the start part of every rule of the set, be `init` met or not.
+    pub fn meets_start_parts(&self, set: u16, state: usize) -> bool {
+        self.met_at_start[state] & set == set
     }
 
     /// A step of a set is a pair of states that meets the step part of every rule of the set.

@@ -1,8 +1,9 @@
-//! Models, damaged texts, lists and orders made from a seed.
+//! Models, damaged texts, lists, orders and logs made from a seed.
 
 pub mod damage;
 pub mod generator;
 pub mod lists;
+pub mod logs;
 pub mod models;
 pub mod orders;
 pub mod properties;

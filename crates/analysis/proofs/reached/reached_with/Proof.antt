@@ -3,7 +3,8 @@
 use borrow.Author.Needs.{needs}
 use Rattle.searches.specs.Stored.{reachedOf}
 use Rattle.searches.specs.Laws.Collecting.{same-reachedOf}
-use Rattle.analysis.proofs.Filled.{room, search-is}
+use Rattle.semantics.specs.Laws.Filled.{room}
+use Rattle.analysis.proofs.Filled.{search-is}
 use Rattle.analysis.proofs.reached.reached_with.Statement.{statement}
 use Rattle.analysis.proofs.reached.reached_with.Tie as tie
 

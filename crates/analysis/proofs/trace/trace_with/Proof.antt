@@ -1,9 +1,10 @@
 -- `analysis::trace::trace_with` meets its contract: by the filled tables a set has the trace that it means.
 -- Assumes nothing.
 use borrow.Author.Needs.{needs}
-use Rattle.searches.specs.Traced.{traceArray}
-use Rattle.searches.specs.Laws.Traced.{same-traceArray}
-use Rattle.analysis.proofs.Filled.{room, search-is}
+use Rattle.traces.specs.Traced.{traceArray}
+use Rattle.traces.specs.Laws.Traced.{same-traceArray}
+use Rattle.semantics.specs.Laws.Filled.{room}
+use Rattle.analysis.proofs.Filled.{search-is}
 use Rattle.analysis.proofs.trace.trace_with.Statement.{statement}
 use Rattle.analysis.proofs.trace.trace_with.Tie as tie
 

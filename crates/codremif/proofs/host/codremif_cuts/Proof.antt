@@ -3,7 +3,7 @@
 use mathlib.Core.Path.{ap, _∙_}
 use borrow.Author.Needs.{needs}
 use Rattle.sorting.specs.declared.which.WhichList.the-variants.{Cuts}
-use Rattle.codremif.specs.Packing.{listParts, packed}
+use Rattle.packing.specs.Packing.{listParts, packed}
 use Rattle.codremif.specs.Laws.Host.{list-reads}
 use Rattle.codremif.proofs.host.codremif_cuts.Statement.{statement}
 use Rattle.codremif.proofs.host.codremif_cuts.Tie as tie

@@ -3,7 +3,7 @@
 use mathlib.Core.Path.{ap, _∙_}
 use borrow.Author.Needs.{needs}
 use Rattle.codremif.specs.Laws.Host.{judge-reads}
-use Rattle.codremif.specs.Packing.{judgeParts, packed}
+use Rattle.packing.specs.Packing.{judgeParts, packed}
 use Rattle.codremif.proofs.host.codremif_judge.Statement.{statement}
 use Rattle.codremif.proofs.host.codremif_judge.Tie as tie
 

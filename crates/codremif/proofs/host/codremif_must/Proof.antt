@@ -3,7 +3,7 @@
 use mathlib.Core.Path.{ap, _∙_}
 use borrow.Author.Needs.{needs}
 use Rattle.codremif.specs.Laws.Host.{kind-reads}
-use Rattle.codremif.specs.Packing.{setParts, packed}
+use Rattle.packing.specs.Packing.{setParts, packed}
 use Rattle.codremif.proofs.host.codremif_must.Statement.{statement}
 use Rattle.codremif.proofs.host.codremif_must.Tie as tie
 

@@ -3,7 +3,7 @@
 use mathlib.Core.Path.{ap, _∙_}
 use borrow.Author.Needs.{needs}
 use Rattle.codremif.specs.Laws.Host.{one-core-reads}
-use Rattle.codremif.specs.Packing.{oneCoreParts, packed}
+use Rattle.packing.specs.Packing.{oneCoreParts, packed}
 use Rattle.codremif.proofs.host.codremif_one_core.Statement.{statement}
 use Rattle.codremif.proofs.host.codremif_one_core.Tie as tie
 

@@ -3,7 +3,7 @@
 use mathlib.Core.Path.{ap, _∙_}
 use borrow.Author.Needs.{needs}
 use Rattle.codremif.specs.Laws.Host.{reached-reads}
-use Rattle.codremif.specs.Packing.{reachedParts, packed}
+use Rattle.packing.specs.Packing.{reachedParts, packed}
 use Rattle.codremif.proofs.host.codremif_reached.Statement.{statement}
 use Rattle.codremif.proofs.host.codremif_reached.Tie as tie
 

@@ -2,7 +2,7 @@
 -- Assumes nothing.
 use mathlib.Core.Path.{ap, _∙_}
 use borrow.Author.Needs.{needs}
-use Rattle.codremif.specs.Packing.{sufficesParts, packed}
+use Rattle.packing.specs.Packing.{sufficesParts, packed}
 use Rattle.codremif.specs.Laws.Suffices.{suffices-range}
 use Rattle.codremif.proofs.host.codremif_suffices.Statement.{statement}
 use Rattle.codremif.proofs.host.codremif_suffices.Tie as tie

@@ -2,7 +2,7 @@
 -- Assumes nothing.
 use mathlib.Core.Path.{ap, _∙_}
 use borrow.Author.Needs.{needs}
-use Rattle.codremif.specs.Packing.{witnessPlace}
+use Rattle.packing.specs.Packing.{witnessPlace}
 use Rattle.codremif.proofs.host.codremif_witness.Statement.{statement}
 use Rattle.codremif.proofs.host.codremif_witness.Tie as tie
 

@@ -10,13 +10,15 @@ use Rattle.lines.specs.declared.line.Line.{Line}
 use Rattle.lines.specs.declared.line.Line.the-variants.{Fault, Read}
 use Rattle.lines.specs.Lines.{faultNumber, varsKey, rulesKey, initKey, countLine, stateLine}
 use Rattle.lines.specs.Laws.Heard.{SaysWithin, says-of, count-heard, state-heard}
-use Rattle.models.specs.declared.progress.LineStart.{LineStart}
+use Rattle.bodies.specs.declared.progress.LineStart.{LineStart}
+use Rattle.bodies.specs.declared.progress.Progress.{Progress}
+use Rattle.bodies.specs.Places.{Placed, Passes}
+use Rattle.bodies.specs.Properties.{propertyCount}
+use Rattle.bodies.specs.Body.{behindLine, propertiesRead, rulesRead}
+use Rattle.bodies.specs.Laws.Ranges.{passes, placed-behind, properties-le, properties-placed}
 use Rattle.models.specs.declared.model.Reading.{Reading}
-use Rattle.models.specs.declared.progress.Progress.{Progress}
-use Rattle.models.specs.Places.{Placed, Passes}
-use Rattle.models.specs.Properties.{propertyCount}
-use Rattle.models.specs.Reading.{textStart, behindLine, refusedReading, finished, propertiesRead, rulesRead, readModel}
-use Rattle.models.specs.Laws.Ranges.{place₂, place₃, place₄, passes, placed-behind, properties-le, properties-placed}
+use Rattle.models.specs.Reading.{textStart, refusedReading, finished, readModel}
+use Rattle.models.specs.Laws.Ranges.{place₂, place₃, place₄}
 use Rattle.models.specs.Laws.Written.{read-is}
 use Rattle.models.proofs.model.read_model.Statement.{statement}
 use Rattle.models.proofs.model.read_model.Tie as tie

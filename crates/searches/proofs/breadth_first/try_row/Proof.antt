@@ -7,7 +7,8 @@ use native.Mathlib.Omega.{arith}
 use borrow.Author.Needs.{needs}
 use Rattle.systems.specs.ByTables.{stepBy}
 use Rattle.searches.specs.Stored.{withRun}
-use Rattle.searches.proofs.Stored.{PairsStored, pairs-none, pairs-ended, pair-passed, pair-room, pair-taken, counted, sound-few}
+use Rattle.traces.specs.Laws.Runs.{sound-few}
+use Rattle.searches.proofs.Stored.{PairsStored, pairs-none, pairs-ended, pair-passed, pair-room, pair-taken, counted}
 use Rattle.searches.proofs.breadth_first.try_row.Statement.{statement}
 use Rattle.searches.proofs.breadth_first.try_row.Tie as tie
 

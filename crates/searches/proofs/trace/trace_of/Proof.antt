@@ -4,9 +4,9 @@ use mathlib.Core.List.{[]}
 use borrow.Author.Needs.{needs}
 use lib.ListN.{getD}
 use Rattle.systems.specs.ByTables.{systemBy}
-use Rattle.searches.specs.Stored.{runsIn}
-use Rattle.searches.specs.Traced.{traceWith, traceArray}
-use Rattle.searches.proofs.Traces.{stored-trace}
+use Rattle.traces.specs.Stored.{runsIn}
+use Rattle.traces.specs.Traced.{traceWith, traceArray}
+use Rattle.searches.proofs.Stored.{stored-trace}
 use Rattle.searches.proofs.trace.trace_of.Statement.{statement}
 use Rattle.searches.proofs.trace.trace_of.Tie as tie
 

@@ -6,9 +6,8 @@ use mathlib.Core.Bool.{Bool, _||_}
 use native.Mathlib.Omega.{arith}
 use borrow.Author.Needs.{needs}
 use lib.ListN.{getD}
-use Rattle.systems.specs.Laws.Least.{any-none}
+use Rattle.systems.specs.Laws.Least.{any-none, any-next}
 use Rattle.verdicts.specs.Marks.{hasBits, anyWith}
-use Rattle.verdicts.proofs.Reaching.{any-next}
 use Rattle.verdicts.proofs.verdict.any_with.Statement.{statement}
 use Rattle.verdicts.proofs.verdict.any_with.Tie as tie
 

@@ -1,7 +1,0 @@
--- `codremif::packing::with_judgements` meets its contract: the sum has 64 bits. Assumes nothing.
-use native.Mathlib.Omega.{arith}
-use Rattle.codremif.proofs.packing.with_judgements.Statement.{statement}
-use Rattle.codremif.proofs.packing.with_judgements.Tie as tie
-
-pub with-judgements-spec : {M : Type 1} → statement M
-with-judgements-spec = tie.close (tie.spec (λ c. omega (arith, c .pre .1)) (λ c. omega (arith, c .pre .0, c .pre .1)) (λ c. omega arith))

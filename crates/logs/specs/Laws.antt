@@ -1,0 +1,3 @@
+-- What is proved of the definitions.
+pub mod Log
+pub mod Run

@@ -1,0 +1,2 @@
+// Answers as the one 64-bit number that a C host gets.
+pub mod answers;

@@ -1,0 +1,3 @@
+// The runs that a search holds, and the trace among them.
+pub mod runs;
+pub mod trace;
