@@ -1,9 +1,10 @@
 -- The log of an accepted call is, up to the first state that breaks a property, a run of the full set without the blamed rules, and ends in a bad state;
 -- so that set is broken. From what a log says, and the start states and steps of a model's sets. Assumes nothing.
 use Prim.Native.Nat.{ℕ, suc, _-_, _<_}
-use mathlib.Core.Path.{_≡_, refl}
-use mathlib.Core.Bool.{Bool, true, false}
+use mathlib.Core.Path.{_≡_}
+use mathlib.Core.Bool.{true, false}
 use mathlib.Core.List.{List}
+use mathlib.Mathlib.Data.Bool.Basic.{eq-true-of-not-eq-false}
 use lib.ListN.{length, getD, take}
 use Rattle.sets.specs.Bit.{has, full}
 use Rattle.sets.specs.Laws.Bit.{has-rest}
@@ -17,10 +18,6 @@ use Rattle.semantics.specs.Laws.Meaning.{start-iff, step-iff}
 use Rattle.calls.specs.Answers.{rulesIn, statesIn, systemIn, judgeIn}
 use Rattle.blaming.specs.Answer.{blameIn}
 use Rattle.blaming.specs.Laws.Answer.{blame-says, blamed-below}
-
-true-if : (b : Bool) → ¬ (b ≡ false) → b ≡ true
-true-if true n = refl
-true-if false n = absurd (n refl)
 
 module _ (text log : List ℕ) (l : IsLog (statesIn text) log) (init : initMet (modelIn text) (getD log 0 0) ≡ true) where
   abbrev says : LogSays (rulesIn text) (startMet (modelIn text)) (stepMet (modelIn text)) (badOf (modelIn text)) log (blameIn text log)
@@ -38,13 +35,13 @@ module _ (text log : List ℕ) (l : IsLog (statesIn text) log) (init : initMet (
   unfolding systemIn systemOf rulesIn
   starts =
       start-iff (modelIn text) kept (getD log 0 0) .1
-      (init, λ i h e. true-if (startMet (modelIn text) i (getD log 0 0)) (λ f. not-blamed i e (says .atStart i h f)))
+      (init, λ i h e. eq-true-of-not-eq-false (λ f. not-blamed i e (says .atStart i h f)))
 
   steps : (k : ℕ) → suc k < length log → systemIn text kept .step (getD log k 0) (getD log (suc k) 0) ≡ true
   unfolding systemIn systemOf rulesIn
   steps k g =
       step-iff (modelIn text) kept (getD log k 0) (getD log (suc k) 0) .1
-      (λ i h e. true-if (stepMet (modelIn text) i (getD log k 0) (getD log (suc k) 0)) (λ f. not-blamed i e (says .atStep i k h g f)))
+      (λ i h e. eq-true-of-not-eq-false (λ f. not-blamed i e (says .atStep i k h g f)))
 
   -- The log up to the breach is a run, ending in a bad state, of the full set without the blamed rules.
   pub log-breach : blameIn text log .place < length log → Breach (systemIn text kept) (take (suc (blameIn text log .place)) log)

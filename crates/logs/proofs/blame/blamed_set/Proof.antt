@@ -85,19 +85,19 @@ abbrev loop : tie.After-shared-slice-known6 Inv-loop μ-loop → tie.At-loop Inv
 loop c = c .before .before .before
 
 -- the states of a pair are states, so its mask is there
-record Pair (masks : List ℕ) (t : Tables) (s u : ℕ) : Type 0 where
+record Pair (masks : List ℕ) (s u : ℕ) : Type 0 where
   first : s < 128
   second : u < 128
   within : 128 * s + u < length masks
 
-pair : (masks : List ℕ) (t : Tables) (log : List ℕ) → Readable masks t log → (k : ℕ) → k + 1 < length log → Pair masks t (getD log k 0) (getD log (k + 1) 0)
+pair : (masks : List ℕ) (t : Tables) (log : List ℕ) → Readable masks t log → (k : ℕ) → k + 1 < length log → Pair masks (getD log k 0) (getD log (k + 1) 0)
 pair masks t log p k h =
     let a = p .states .states k (omega arith) in
     let b = p .states .states (k + 1) h in
     omega (arith, a, b, p .room .few, p .room .room)
 
 abbrev here : (c : tie.After-shared-slice-known6 Inv-loop μ-loop)
-    → let a = start (loop c) .args in Pair (a .masks .now) (a .t) (getD (a .log .now) (loop c .loop .k) 0) (getD (a .log .now) (loop c .loop .k + 1) 0)
+    → let a = start (loop c) .args in Pair (a .masks .now) (getD (a .log .now) (loop c .loop .k) 0) (getD (a .log .now) (loop c .loop .k + 1) 0)
 here c = let a = start (loop c) .args in pair (a .masks .now) (a .t) (a .log .now) (start (loop c) .pre) (loop c .loop .k) (omega arith)
 
 pub blamed-set-spec : {M : Type 1} → statement M
