@@ -30,7 +30,7 @@
  *
  * One more, codremif_version, tells which library is linked.
  *
- * Build. `rt staticlib codremif` at the repository's top proves the library and writes
+ * Build. `tools/library` at the repository's top proves the library and writes
  *   target/staticlib/libcodremif.a, for x86-64 Linux:
  *
  *     cc -Iinclude host.c target/staticlib/libcodremif.a

@@ -1,4 +1,4 @@
-//! Tells cargo where libcodremif.a lies: in CODREMIF_LIB_DIR, or where `rt staticlib codremif` writes it.
+//! Tells cargo where libcodremif.a lies: in CODREMIF_LIB_DIR, or where `tools/library` writes it.
 
 use std::path::{Path, PathBuf};
 
@@ -9,7 +9,7 @@ fn main() {
     println!("cargo:rerun-if-changed={}", library.display());
     if !library.exists() {
         panic!(
-            "{} is missing: run `rt staticlib codremif` in the top folder of the repository, or set CODREMIF_LIB_DIR",
+            "{} is missing: run `tools/library` in the top folder of the repository, or set CODREMIF_LIB_DIR",
             library.display()
         );
     }

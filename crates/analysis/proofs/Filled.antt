@@ -8,7 +8,7 @@ use lib.ListN.{get_or}
 use Rattle.sets.specs.declared.one_core.OneCore.{OneCore}
 use Rattle.sets.specs.Orders.{IsOrder}
 use Rattle.sets.specs.OneCore.{one_core_of}
-use Rattle.sets.specs.Laws.OneCore.{one_core_agree}
+use Rattle.sets.proofs.Laws.OneCore.{one_core_agree}
 use Rattle.models.specs.declared.model.Model.{Model}
 use Rattle.models.specs.Written.{described}
 use Rattle.systems.specs.declared.tables.Tables.{Tables}
@@ -17,12 +17,12 @@ use Rattle.systems.specs.System.{System}
 use Rattle.systems.specs.Laws.Compare.{Same}
 use Rattle.semantics.specs.Meaning.{start_met, step_met, bad_of, system_of, judge}
 use Rattle.semantics.specs.TablesOf.{masks_of, tables_of, RoomFor}
-use Rattle.semantics.specs.Laws.Filled.{rules_are, room, same_verdict, same_system, mask_has, start_mask_has, bad_marked}
+use Rattle.semantics.proofs.Laws.Filled.{rules_are, room, same_verdict, same_system, mask_has, start_mask_has, bad_marked}
 use Rattle.orders.specs.Dropping.{ByOrder}
 use Rattle.logs.specs.declared.blame.Blamed.{Blamed}
 use Rattle.logs.specs.Log.{IsLog, blame_of}
 use Rattle.logs.specs.ByTables.{start_met_by, step_met_by, Readable}
-use Rattle.logs.specs.Laws.Log.{blame_same}
+use Rattle.logs.proofs.Laws.Log.{blame_same}
 
 module _ (text : List ℕ) {before : List ℕ} {m : Model} (r : RoomFor m before) {masks : List ℕ} {t : Tables}
     (p : masks ≡ masks_of before (described text m)) (q : t ≡ tables_of (described text m)) where

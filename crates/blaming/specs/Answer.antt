@@ -6,7 +6,7 @@ use Rattle.models.specs.Written.{model_in}
 use Rattle.logs.specs.declared.blame.Blamed.{Blamed}
 use Rattle.logs.specs.Log.{is_log, blame_of}
 use Rattle.semantics.specs.Meaning.{init_met, start_met, step_met, bad_of}
-use Rattle.calls.specs.Answers.{rules_in, states_in, ◌orElse◌, refused_if, text_outcome, given}
+use Rattle.calls.specs.Answers.{rules_in, states_in, ◌or_else◌, refused_if, text_outcome, given}
 use Rattle.blaming.specs.declared.answer.BlameAnswer.{BlameAnswer}
 use Rattle.blaming.specs.declared.answer.BlameAnswer.TheVariants.{Refused, BreachAt, NoBreach}
 
@@ -27,7 +27,7 @@ init_outcome text log = refused_if (not (init_met (model_in text) (get_or log 0 
 
 -- "Both after 9, in this order."
 unfoldable pub blame_outcome : (text log : List ℕ) → Outcome
-unfolding ◌orElse◌ text_outcome log_outcome init_outcome
+unfolding ◌or_else◌ text_outcome log_outcome init_outcome
 blame_outcome text log = text_outcome text or_else log_outcome text log or_else init_outcome text log
 
 -- Where the place is that of a state of the log, which has so many, there is a breach.

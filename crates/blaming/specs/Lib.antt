@@ -1,3 +1,2 @@
--- What blame from a log answers. Its laws stand in `Laws`.
+-- What blame from a log answers. What is proved of it stands in proofs/Laws.
 pub mod Answer
-pub mod Laws

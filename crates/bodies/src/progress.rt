@@ -4,14 +4,14 @@ ghost use Rattle.bodies.specs.Body.{behind_line, with_fault};
 ghost use Rattle.bodies.specs.Places.{Passes};
 
 // A place of the text where a line begins, and the number of this line.
-#[derive(Drop)]
+#[derive(Clone, Copy)]
 pub struct LineStart {
     pub at: usize,
     pub line: usize,
 }
 
 // The property lines and rule lines read so far: the number of a refusal, or 0; and the place of the line that is due, or that was refused.
-#[derive(Drop)]
+#[derive(Clone, Copy)]
 pub struct Progress {
     pub number: u8,
     pub place: LineStart,

@@ -22,9 +22,9 @@ use Rattle.calls.specs.declared.answers.JudgeAnswer.{JudgeAnswer}
 use Rattle.calls.specs.declared.answers.JudgeAnswer.TheVariants.{Refused as JudgeRefused, Holds, Broken}
 use Rattle.calls.specs.Answers.{system_in, trace_in, text_outcome, judge_outcome, after, verdict_of, judge_answer, judge_bytes}
 use Rattle.calls.specs.AsRead.{IsRead}
-use Rattle.calls.specs.Laws.Answers.{read_model, rules_read_lem, set_read, given_accepted, given_refused, judge_numbers, verdict_held, verdict_broken}
+use Rattle.calls.proofs.Laws.Answers.{read_model_lem, rules_read_lem, set_read, given_accepted, given_refused, judge_numbers, verdict_held, verdict_broken}
 use Rattle.calls.specs.Lent.{Front}
-use Rattle.calls.specs.Laws.Sizes.{trace_le}
+use Rattle.calls.proofs.Laws.Sizes.{trace_le}
 
 -- a call answers `answer` and leaves the lent bytes as `bytes`
 abbrev pub Gives : List ℕ → ℕ → List ℕ → JudgeAnswer → List ℕ → Type 0
@@ -54,7 +54,7 @@ module _ {text : List ℕ} {m : Model} (r : IsRead text m) where
 
     trace_is : t ≡ trace_array M
     unfolding M system_in
-    trace_is = said ∙ ap (λ D. trace_array (system_of D S)) (read_model r)
+    trace_is = said ∙ ap (λ D. trace_array (system_of D S)) (read_model_lem r)
 
     states_are : take t.length t.states ≡ trace_in text S
     unfolding M trace_in

@@ -23,8 +23,8 @@ use Rattle.calls.specs.declared.answers.ListAnswer.TheVariants.{Refused as ListR
 use Rattle.calls.specs.declared.answers.SetAnswer.TheVariants.{Refused as SetRefused, Set}
 use Rattle.calls.specs.Answers.{text_outcome, judge_in, list_in, kind_in, after, list_answer, list_bytes, kind_answer}
 use Rattle.calls.specs.AsRead.{IsRead, of_listed}
-use Rattle.calls.specs.Laws.Answers.{read_model, rules_read_lem, given_refused, list_numbers, list_enough}
-use Rattle.calls.specs.Laws.Answers as Law
+use Rattle.calls.proofs.Laws.Answers.{read_model_lem, rules_read_lem, given_refused, list_numbers, list_enough}
+use Rattle.calls.proofs.Laws.Answers as Law
 
 -- what a call gives for a list
 abbrev pub Lists : WhichList → List ℕ → List ℕ → ListAnswer → List ℕ → Type 0
@@ -33,11 +33,11 @@ Lists which text lent answer bytes = (answer ≡ list_answer which text lent) ×
 module _ {text : List ℕ} {m : Model} (r : IsRead text m) where
   pub list_told : (which : WhichList) → listed which m.rules (judge (described text m)) ≡ list_in which text
   unfolding list_in judge_in
-  list_told which = ap₂ (λ (R : ℕ) D. listed which R (judge D)) (rules_read_lem r) (read_model r)
+  list_told which = ap₂ (λ (R : ℕ) D. listed which R (judge D)) (rules_read_lem r) (read_model_lem r)
 
   pub kind_told : (kind : Kind) → of_kind kind m.rules (judge (described text m)) ≡ kind_in kind text
   unfolding kind_in judge_in
-  kind_told kind = ap₂ (λ (R : ℕ) D. of_kind kind R (judge D)) (rules_read_lem r) (read_model r)
+  kind_told kind = ap₂ (λ (R : ℕ) D. of_kind kind R (judge D)) (rules_read_lem r) (read_model_lem r)
 
   list_given : (which : WhichList) (lent : List ℕ)
       → Lists which text lent (of_listed (listed_answer (list_in which text) lent)) (listed_bytes (list_in which text) lent)

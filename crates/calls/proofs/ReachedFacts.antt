@@ -24,7 +24,7 @@ use Rattle.calls.specs.declared.answers.ReachedAnswer.{ReachedAnswer}
 use Rattle.calls.specs.declared.answers.ReachedAnswer.TheVariants.{Refused as ReachedRefused, Pairs}
 use Rattle.calls.specs.Answers.{states_in, system_in, marks_in, pairs_in, text_outcome, reached_outcome, after, reached_answer, reached_bytes}
 use Rattle.calls.specs.AsRead.{IsRead}
-use Rattle.calls.specs.Laws.Answers.{read_model, rules_read_lem, states_read, set_read, vars_most, given_accepted, given_refused, reached_numbers, length_marks}
+use Rattle.calls.proofs.Laws.Answers.{read_model_lem, rules_read_lem, states_read, set_read, vars_most, given_accepted, given_refused, reached_numbers, length_marks}
 
 -- a call answers `answer` and leaves the lent bytes as `bytes`
 abbrev Reaches : List ℕ → ℕ → List ℕ → ReachedAnswer → List ℕ → Type 0
@@ -56,7 +56,7 @@ module _ {text : List ℕ} {m : Model} (r : IsRead text m) (S : ℕ) (lent : Lis
 
       reached_is : x ≡ reached_of M
       unfolding M system_in
-      reached_is = said ∙ ap (λ D. reached_of (system_of D S)) (read_model r)
+      reached_is = said ∙ ap (λ D. reached_of (system_of D S)) (read_model_lem r)
 
       marks_are : tabulate (2 ^ m.vars) (λ s. bool_byte (get_or x.marks s false)) ≡ marks_in text S
       unfolding M marks_in reached_of

@@ -73,8 +73,8 @@ kind_in kind text = of_kind kind (rules_in text) (judge_in text)
 -- ---- the first number that fits
 
 -- The first of two refusals; where it is none, the second.
-infixr 40 ◌orElse◌
-unfoldable pub ◌orElse◌ : Outcome → Outcome → Outcome
+infixr 40 ◌or_else◌
+unfoldable pub ◌or_else◌ : Outcome → Outcome → Outcome
 Accepted or_else next = next
 Refused number line or_else next = Refused number line
 
@@ -100,7 +100,7 @@ length_outcome new lent = refused_if (ltb (length lent) (length new)) 11
 
 -- A call that is handed a set, and writes these new bytes.
 unfoldable pub asked_outcome : (text : List ℕ) (S : ℕ) (new lent : List ℕ) → Outcome
-unfolding ◌orElse◌ text_outcome set_outcome length_outcome
+unfolding ◌or_else◌ text_outcome set_outcome length_outcome
 asked_outcome text S new lent = text_outcome text or_else set_outcome text S or_else length_outcome new lent
 
 -- Judging a set needs one byte for each state of the trace; a set that holds needs none.
@@ -115,7 +115,7 @@ reached_outcome text S lent = asked_outcome text S (marks_in text S) lent
 
 -- Listing sets needs two bytes for each. (The rules of a kind need none: that call's outcome is the text's.)
 unfoldable pub list_outcome : WhichList → List ℕ → List ℕ → Outcome
-unfolding ◌orElse◌ text_outcome length_outcome bytes_of list_in
+unfolding ◌or_else◌ text_outcome length_outcome bytes_of list_in
 list_outcome which text lent = text_outcome text or_else length_outcome (bytes_of (list_in which text)) lent
 
 -- ---- the answers

@@ -1,6 +1,5 @@
 -- The calls: what each answers and what the lent bytes hold afterwards (`Answers`), and what the functions below them hand on (`AsRead`, `Lent`).
--- What is proved of these stands in `Laws`.
+-- What is proved of these stands in proofs/Laws.
 pub mod Answers
 pub mod AsRead
 pub mod Lent
-pub mod Laws

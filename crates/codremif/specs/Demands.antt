@@ -1,6 +1,6 @@
 -- The demands of the mission, as theorems about what exactly the calls answer and write. Nothing is assumed.
 -- To believe them, read these files below crates/ in this order (lines without imports and blank lines, 1,958 in all). What is proved of their
--- definitions stands in `Laws` and need not be read, and neither need the functions that compute (the reading of a text, the verdict, the lists):
+-- definitions stands in `Laws` (of specs/ or of proofs/) and need not be read, and neither need the functions that compute (the reading of a text, the verdict, the lists):
 -- the theorems say what they give.
 --   a number as a set of rules or of letters           sets/specs/Bit                8
 --   expressions, their value and their written form    exprs/specs/Expr             42
@@ -9,9 +9,9 @@
 --   a legal rule and its line                          lines/specs/Written          55
 --   a model, when it is legal, its written form        models/specs/Written         81
 --   how many property lines a text has                 bodies/specs/Properties      16
---   accepted texts are exactly these                   models/specs/Accepted        34
+--   accepted texts are exactly these                   models/proofs/Accepted       34
 --   when a text is refused: the numbers 1 to 9         models/specs/Refusals       119
---   the reading answers with the first that fits       models/specs/Refused         29
+--   the reading answers with the first that fits       models/proofs/Refused        29
 --   runs, reached, holds, the trace                    systems/specs/System         51
 --   how many numbers below a bound pass a test         systems/specs/Count           6
 --   and 1 for one that passes, 0 for one that does not sets/specs/Gathered          11

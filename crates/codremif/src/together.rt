@@ -7,7 +7,7 @@ ghost use Rattle.codremif.specs.Demand3.{AsCalled, TextDemand3, in_rattle, asked
 use calls::answers::{ListAnswer, SetAnswer};
 use sorting::which::WhichList;
 
-#[derive(Drop)]
+#[derive(Clone, Copy)]
 pub struct Together {
     pub cores: ListAnswer,
     pub cuts: ListAnswer,

@@ -4,9 +4,10 @@
 ghost use Rattle.std.specs.Prelude.{◌≤◌};
 
 use crate::{fields, shown};
-use libc::STDOUT_FILENO;
 use sorting::kinds::Kind;
 use sorting::which::WhichList;
+use std::io;
+use std::io::Write;
 
 // How many of the eight bytes are lent: eight where the field has more.
 fn room_in(s: &[u8]) -> usize
@@ -17,72 +18,84 @@ fn room_in(s: &[u8]) -> usize
 }
 
 // What a call that writes to lent bytes answers.
-fn answer(call: &[u8], text: &[u8], set: u32, lent: &mut [u8]) {
+fn answer(
+    out: &mut impl Write,
+    call: &[u8],
+    text: &[u8],
+    set: u32,
+    lent: &mut [u8],
+) -> io::Result<()> {
     if slices::parts::same_bytes(call, b"judge") {
-        return shown::verdict(calls::judging::judge(text, set, lent));
+        return shown::verdict(out, calls::judging::judge(text, set, lent));
     }
     if slices::parts::same_bytes(call, b"reached") {
-        return shown::pairs(calls::reaching::reach(text, set, lent));
+        return shown::pairs(out, calls::reaching::reach(text, set, lent));
     }
     if slices::parts::same_bytes(call, b"cores") {
-        return shown::count(calls::listing::list(text, WhichList::Cores, lent));
+        return shown::count(out, calls::listing::list(text, WhichList::Cores, lent));
     }
     if slices::parts::same_bytes(call, b"cuts") {
-        return shown::count(calls::listing::list(text, WhichList::Cuts, lent));
+        return shown::count(out, calls::listing::list(text, WhichList::Cuts, lent));
     }
-    io::write_all(STDOUT_FILENO, b"no such call");
+    out.write_all(b"no such call")
 }
 
 // The eight lent bytes held 201 to 208 before, so that a byte shown from another place is seen.
-fn lend(call: &[u8], text: &[u8], room: usize, set: u32)
+fn lend(out: &mut impl Write, call: &[u8], text: &[u8], room: usize, set: u32) -> io::Result<()>
     requires { room ≤ 8 }
 {
     let mut lent = [201u8, 202, 203, 204, 205, 206, 207, 208];
-    answer(call, text, set, &mut lent[..room]);
-    shown::lent_bytes(lent);
+    answer(out, call, text, set, &mut lent[..room])?;
+    shown::lent_bytes(out, lent)
 }
 
-fn kinds(text: &[u8]) {
-    shown::set(b"must=", calls::kinds::give(text, Kind::Must));
-    shown::set(b" may=", calls::kinds::give(text, Kind::May));
-    shown::set(b" irr=", calls::kinds::give(text, Kind::Irrelevant));
+fn kinds(out: &mut impl Write, text: &[u8]) -> io::Result<()> {
+    shown::set(out, b"must=", calls::kinds::give(text, Kind::Must))?;
+    shown::set(out, b" may=", calls::kinds::give(text, Kind::May))?;
+    shown::set(out, b" irr=", calls::kinds::give(text, Kind::Irrelevant))
 }
 
 // What every call answers for a text, and for one of its sets.
-fn every_call(text: &[u8], set: u32) {
-    lend(b"judge", text, 8, set);
-    io::write_all(STDOUT_FILENO, b"\nits reached states: ");
-    lend(b"reached", text, 8, set);
-    io::write_all(STDOUT_FILENO, b"\nits cores: ");
-    lend(b"cores", text, 8, set);
-    io::write_all(STDOUT_FILENO, b"\nits cuts: ");
-    lend(b"cuts", text, 8, set);
-    io::write_all(STDOUT_FILENO, b"\nits rules: ");
-    kinds(text);
+fn every_call(out: &mut impl Write, text: &[u8], set: u32) -> io::Result<()> {
+    lend(out, b"judge", text, 8, set)?;
+    out.write_all(b"\nits reached states: ")?;
+    lend(out, b"reached", text, 8, set)?;
+    out.write_all(b"\nits cores: ")?;
+    lend(out, b"cores", text, 8, set)?;
+    out.write_all(b"\nits cuts: ")?;
+    lend(out, b"cuts", text, 8, set)?;
+    out.write_all(b"\nits rules: ")?;
+    kinds(out, text)
 }
 
 // The two lists have one lifetime, since the witness is a part of either.
-fn look_up<'a>(cores: &'a [u8], cuts: &'a [u8], set: u32) {
-    shown::said(lookup::suffices::suffices(set, cores, cuts));
+fn look_up<'a>(out: &mut impl Write, cores: &'a [u8], cuts: &'a [u8], set: u32) -> io::Result<()> {
+    shown::said(out, lookup::suffices::suffices(set, cores, cuts))?;
     let part = lookup::suffices::witness(set, cores, cuts);
     if part.len() == 0 {
-        io::write_all(STDOUT_FILENO, b", no witness");
+        out.write_all(b", no witness")
     } else {
-        shown::bytes(b", witness", part);
+        shown::bytes(out, b", witness", part)
     }
 }
 
 // The calls that are given the bytes of two fields: a text and an order or a log, or two lists.
-fn ask_two(call: &[u8], first: &[u8], line: &[u8], set: u32) {
+fn ask_two(
+    out: &mut impl Write,
+    call: &[u8],
+    first: &[u8],
+    line: &[u8],
+    set: u32,
+) -> io::Result<()> {
     let mut second = [0u8; 2048];
     let n = fields::bytes_in(fields::field(line, 3), &mut second);
     if slices::parts::same_bytes(call, b"one core") {
-        return shown::one_core(preferences::one_core::one_core(first, &second[..n]));
+        return shown::one_core(out, preferences::one_core::one_core(first, &second[..n]));
     }
     if slices::parts::same_bytes(call, b"blame") {
-        return shown::blamed(blaming::blame::blame(first, &second[..n]));
+        return shown::blamed(out, blaming::blame::blame(first, &second[..n]));
     }
-    look_up(first, &second[..n], set);
+    look_up(out, first, &second[..n], set)
 }
 
 // Whether the bytes of two fields are given.
@@ -93,46 +106,46 @@ fn is_given_two(call: &[u8]) -> bool {
 }
 
 // The calls that are given a text.
-fn ask(call: &[u8], text: &[u8], room: usize, set: u32)
+fn ask(out: &mut impl Write, call: &[u8], text: &[u8], room: usize, set: u32) -> io::Result<()>
     requires { room ≤ 8 }
 {
     if slices::parts::same_bytes(call, b"kinds") {
-        return kinds(text);
+        return kinds(out, text);
     }
     if slices::parts::same_bytes(call, b"every call") {
-        return every_call(text, set);
+        return every_call(out, text, set);
     }
     if slices::parts::same_bytes(call, b"read") {
         let reading = models::model::read_model(text);
         let outcome = reading.outcome;
-        return shown::outcome(outcome);
+        return shown::outcome(out, outcome);
     }
-    lend(call, text, room, set);
+    lend(out, call, text, room, set)
 }
 
 // The call of a line, where the bytes of field 2 are told already.
-fn run_call(line: &[u8], first: &[u8]) {
+fn run_call(out: &mut impl Write, line: &[u8], first: &[u8]) -> io::Result<()> {
     let call = fields::field(line, 0);
     let room = room_in(fields::field(line, 3));
     let set = fields::number_in(fields::field(line, 4));
     if slices::parts::same_bytes(call, b"look up in one list") {
-        return look_up(first, first, set);
+        return look_up(out, first, first, set);
     }
     if is_given_two(call) {
-        return ask_two(call, first, line, set);
+        return ask_two(out, call, first, line, set);
     }
-    ask(call, first, room, set);
+    ask(out, call, first, room, set)
 }
 
 // The case's name, and what the call answers.
-pub(crate) fn run_line(line: &[u8]) {
+pub(crate) fn run_line(out: &mut impl Write, line: &[u8]) -> io::Result<()> {
     if slices::parts::byte_at(line, 0) == b'#' {
-        return;
+        return Ok(());
     }
     let mut first = [0u8; 2048];
     let n = fields::bytes_in(fields::field(line, 2), &mut first);
-    io::write_all(STDOUT_FILENO, fields::field(line, 1));
-    io::write_all(STDOUT_FILENO, b": ");
-    run_call(line, &first[..n]);
-    io::write_all(STDOUT_FILENO, b"\n");
+    out.write_all(fields::field(line, 1))?;
+    out.write_all(b": ")?;
+    run_call(out, line, &first[..n])?;
+    out.write_all(b"\n")
 }

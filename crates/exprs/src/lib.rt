@@ -1,4 +1,6 @@
 // Expressions over the bits of one second and the next, written operator first.
+#![tactic(auto)]
+
 pub mod reading;
 pub mod token;
 pub mod words;

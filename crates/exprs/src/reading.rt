@@ -6,7 +6,7 @@ ghost use Rattle.exprs.specs.Answers.{read_of, used_by};
 use crate::token::Token;
 
 // The bytes of the expression at the start of a slice, or that none stands there.
-#[derive(Drop)]
+#[derive(Clone, Copy)]
 pub enum Extent {
     Used(usize),
     NoExpression,

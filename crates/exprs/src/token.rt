@@ -3,7 +3,7 @@ ghost use Rattle.std.specs.Prelude.{◌≡◌};
 ghost use Rattle.exprs.specs.Token.{token_of, operand_count};
 
 // What one byte stands for. A letter has its place in the alphabet: 0 for `a` and `A`.
-#[derive(Drop)]
+#[derive(Clone, Copy)]
 pub enum Token {
     Constant(bool),
     Now(u8),
@@ -16,6 +16,7 @@ pub enum Token {
     Other,
 }
 
+#[tactic(auto, unfolding(crate::specs::Token::token_of))]
 pub fn classify(b: u8) -> Token
     ensures { result ≡ token_of b }
 {

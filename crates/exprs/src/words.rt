@@ -9,7 +9,7 @@ ghost use Rattle.exprs.specs.Answers.{words_of, words_in, combined};
 use crate::token::Token;
 
 // The values of the expression at the start of a slice at 64 next states at once, one bit each, and its bytes; or that none stands there.
-#[derive(Drop)]
+#[derive(Clone, Copy)]
 pub enum Worded {
     Word(u64, usize),
     NoWord,

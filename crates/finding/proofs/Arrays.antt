@@ -9,7 +9,7 @@ use lib.ListN.{length, take, drop, replicate}
 use lib.Pow.{pow_mono}
 use lib.Seq.{length-take-le}
 use Rattle.sets.specs.Lists.{overwritten}
-use Rattle.semantics.specs.Laws.Filled.{repeats}
+use Rattle.semantics.proofs.Laws.Filled.{repeats}
 use Rattle.marks.specs.Marks.{table_by, Room}
 use Rattle.marks.specs.Laws.Marks.{length_table_by}
 use Rattle.finding.specs.Finding.{RoomForSets}

@@ -8,14 +8,14 @@ use mathlib.Core.Bool.{Bool}
 use Rattle.sets.specs.Lists.{list_of, cores_of, cuts_of, must_of, common, overwritten}
 use Rattle.sets.specs.Kinds.{some_of}
 use Rattle.sets.specs.Laws.Growth.{is_core_agree, is_cut_agree, cores_of_agree}
-use Rattle.sets.specs.Laws.Kinds.{some_less_must, full_less_some}
+use Rattle.sets.proofs.Laws.Kinds.{some_less_must, full_less_some}
 use Rattle.models.specs.declared.model.Model.{Model}
 use Rattle.models.specs.Written.{described}
 use Rattle.systems.specs.declared.tables.Tables.{Tables}
 use Rattle.systems.specs.ByTables.{judge_by}
 use Rattle.semantics.specs.Meaning.{judge}
 use Rattle.semantics.specs.TablesOf.{masks_of, tables_of, RoomFor}
-use Rattle.semantics.specs.Laws.Filled.{rules_are, room, same_verdict, filled_monotone}
+use Rattle.semantics.proofs.Laws.Filled.{rules_are, room, same_verdict, filled_monotone}
 use Rattle.sorting.specs.declared.which.WhichList.{WhichList}
 use Rattle.sorting.specs.declared.which.WhichList.TheVariants.{Cores, Cuts}
 use Rattle.sorting.specs.declared.kinds.Kinds.{Kinds}

@@ -12,7 +12,7 @@ use models::model::Model;
 use sorting::which::WhichList;
 
 // How many sets were written; or that the lent bytes are too few for the list, and then none was.
-#[derive(Drop)]
+#[derive(Clone, Copy)]
 pub enum Listed {
     Count(usize),
     TooShort,

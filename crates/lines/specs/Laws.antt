@@ -1,8 +1,3 @@
--- What is proved of the definitions of this crate.
+-- What is proved of classes of bytes and of numbers in base ten. What is proved of reading a line stands in proofs/Laws.
 pub mod Bytes
 pub mod Decimal
-pub mod Numbers
-pub mod Expressions
-pub mod Heard
-pub mod Ended
-pub mod Lines

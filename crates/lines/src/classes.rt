@@ -6,7 +6,7 @@ use exprs::token::Token;
 
 // The bytes that a line, a name, a part of a rule and an expression have; those that the letters of a model allow; and those that both an expression has
 // and the letters allow, so that a legal expression is gone over once.
-#[derive(Drop)]
+#[derive(Clone, Copy)]
 pub enum Class {
     InLine,
     InName,

@@ -6,7 +6,7 @@ use crate::classes::Class;
 
 // What reading a line gives: the number that refuses it; or what it says, and how many bytes it has with its byte 10. A count line
 // says the count, and a line with an expression the place within the line where the expression begins.
-#[derive(Drop)]
+#[derive(Clone, Copy)]
 pub enum Line {
     Fault(u8),
     Read(usize, usize),
@@ -23,7 +23,7 @@ pub fn fault_number(l: Line) -> u8
 }
 
 // Where the line that is due ends: at its byte 10, if it is there.
-#[derive(Drop)]
+#[derive(Clone, Copy)]
 pub enum End {
     At(usize),
     Missing,

@@ -36,7 +36,7 @@ pub record LogSays (R : ℕ) (start_met : ℕ → ℕ → Bool) (step_met : ℕ 
   pub breaks : b.place < length log → bad (get_or log b.place 0) ≡ true
   pub before : (k : ℕ) → k < b.place → bad (get_or log k 0) ≡ false
 
--- ---- the same as functions that compute: `Laws.Log` proves that they give it
+-- ---- the same as functions that compute: proofs/Laws/Log proves that they give it
 
 -- Rule i is broken in the first state, or between one of the first n pairs of neighbours.
 unfoldable pub is_broken : (start_met : ℕ → ℕ → Bool) (step_met : ℕ → ℕ → ℕ → Bool) → List ℕ → ℕ → ℕ → Bool

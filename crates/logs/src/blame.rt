@@ -8,7 +8,7 @@ use sets::ruleset::RuleSet;
 use systems::tables::Tables;
 
 // The set of the rules that are broken in a log, and the place of the first bad state, or the log's length if there is none.
-#[derive(Drop)]
+#[derive(Clone, Copy)]
 pub struct Blamed {
     pub set: u16,
     pub place: usize,

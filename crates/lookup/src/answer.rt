@@ -1,5 +1,5 @@
 // What two lists say of a set of rules. A place is that of the first of a set's two bytes.
-#[derive(Drop)]
+#[derive(Clone, Copy)]
 pub enum SufficesAnswer {
     Refused(u8, usize),
     // The first listed core that is a part of the set stands at this place of the core list.

@@ -4,14 +4,14 @@ ghost use Rattle.sets.specs.Sets.{part};
 ghost use Rattle.lookup.specs.Search.{first_in, fits};
 
 // Where the set stands that was searched for: the place of the first of its two bytes.
-#[derive(Drop)]
+#[derive(Clone, Copy)]
 pub(crate) enum Found {
     At(usize),
     Nowhere,
 }
 
 // What a listed set is to be: a part of the set that is looked up, or without a rule in it.
-#[derive(Drop)]
+#[derive(Clone, Copy)]
 pub(crate) enum Fit {
     Inside,
     Apart,

@@ -1,2 +1,4 @@
 // Tables of marks: one bit for each set of rules.
+#![tactic(auto)]
+
 pub mod table;

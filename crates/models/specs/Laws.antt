@@ -1,17 +1,11 @@
--- What is proved of the definitions of this crate.
+-- What is proved of the definitions other than the reading. What is proved of the reading stands in proofs/Laws.
 pub mod Lines
-pub mod Finished
-pub mod Ranges
 pub mod Lists
 pub mod Rules
 pub mod Properties
-pub mod Written
 pub mod Grounds
 pub mod Parts
 pub mod Fitting
-pub mod Refusals
 pub mod Numbers
 pub mod Tables
-pub mod Overlaps
-pub mod Changed
 pub mod Names

@@ -1,5 +1,5 @@
 -- When a text is refused: the numbers 1 to 9 as document 01, "When a call is turned away", lists them, each with the lines where it fits, and the
--- one that comes first. `Rattle.models.specs.Refused` shows that the reading answers with this one. From document 01, "The model text" and
+-- one that comes first. `Rattle.models.proofs.Refused` shows that the reading answers with this one. From document 01, "The model text" and
 -- "When a call is turned away", and document 02, "Several properties together" and "Rules that speak about power-up". Assumes nothing: these are definitions.
 use Rattle.std.specs.Prelude.{ℕ, zero, suc, ◌+◌, ◌-◌, ◌≤◌, ◌<◌, ◌≡◌, ◌≢◌, ◌⊎◌, Bool, true, false, length, drop}
 use mathlib.Core.List.{List, [], ◌∷◌, ◌++◌, Memᴰ}

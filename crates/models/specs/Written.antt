@@ -1,5 +1,5 @@
 -- A model as document 01, "The model text", and document 02 describe it: what it consists of, when it is legal, its written form, and the model that a text
--- tells. `Rattle.models.specs.Accepted` shows that the reading accepts exactly the written forms of legal models.
+-- tells. `Rattle.models.proofs.Accepted` shows that the reading accepts exactly the written forms of legal models.
 -- Assumes nothing: these are definitions.
 use Rattle.std.specs.Prelude.{ℕ, zero, suc, ◌<◌, ◌≢◌, false, length, get_or, drop}
 use mathlib.Core.List.{List, [], ◌++◌, map, flat_map}

@@ -8,7 +8,7 @@ use lines::line::Line;
 // A model, by where its parts stand in the text: N, R and how many properties there are, the expression of `init`, that of each property, the name
 // and the step part of each rule, and how many bytes behind the first of the step part its start part begins, 0 where it has none. Places of
 // properties and rules that the model lacks are 0.
-#[derive(Drop)]
+#[derive(Clone, Copy)]
 pub struct Model {
     pub vars: usize,
     pub rules: usize,
@@ -21,13 +21,13 @@ pub struct Model {
 }
 
 // Whether a text is a model, or the number that refuses it and the line.
-#[derive(Drop)]
+#[derive(Clone, Copy)]
 pub enum Outcome {
     Accepted,
     Refused(u8, usize),
 }
 
-#[derive(Drop)]
+#[derive(Clone, Copy)]
 pub struct Reading {
     pub outcome: Outcome,
     pub model: Model,

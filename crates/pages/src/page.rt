@@ -4,7 +4,7 @@ ghost use Rattle.pages.specs.Page.{page_of, put_byte, put};
 
 // Where the next byte goes: so many are still to be passed over, and then the next is stored at this place. `more` notes that a byte was left
 // out because the page was full.
-#[derive(Drop)]
+#[derive(Clone, Copy)]
 pub struct Place {
     pub skip: usize,
     pub at: usize,
@@ -12,7 +12,7 @@ pub struct Place {
 }
 
 // What is said of a page: it has so many bytes, the next one begins after so many of the report, and whether there is a next one.
-#[derive(Drop)]
+#[derive(Clone, Copy)]
 pub struct Printed {
     pub bytes: usize,
     pub next: usize,

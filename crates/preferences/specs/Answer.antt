@@ -5,7 +5,7 @@ use Rattle.sets.specs.declared.one_core.OneCore.{OneCore}
 use Rattle.sets.specs.Orders.{is_order}
 use Rattle.sets.specs.OneCore.{one_core_of}
 use Rattle.models.specs.declared.model.Outcome.{Outcome}
-use Rattle.calls.specs.Answers.{rules_in, judge_in, ◌orElse◌, refused_if, text_outcome, given}
+use Rattle.calls.specs.Answers.{rules_in, judge_in, ◌or_else◌, refused_if, text_outcome, given}
 use Rattle.preferences.specs.declared.answer.OneCoreAnswer.{OneCoreAnswer}
 use Rattle.preferences.specs.declared.answer.OneCoreAnswer.TheVariants.{Refused, CoreFound, NoCore}
 
@@ -21,7 +21,7 @@ order_outcome text order = refused_if (not (is_order (rules_in text) order)) 13
 
 -- "It is tried after number 9."
 unfoldable pub one_core_outcome : (text order : List ℕ) → Outcome
-unfolding ◌orElse◌ text_outcome order_outcome
+unfolding ◌or_else◌ text_outcome order_outcome
 one_core_outcome text order = text_outcome text or_else order_outcome text order
 
 -- Where the full set is broken, there is no core.

@@ -1,3 +1,2 @@
--- What finding one core by an order of the rules answers. Its laws stand in `Laws`.
+-- What finding one core by an order of the rules answers. What is proved of it stands in proofs/Laws.
 pub mod Answer
-pub mod Laws

@@ -1,2 +1,4 @@
 // The report of a text, page by page.
+#![tactic(auto)]
+
 pub mod report;

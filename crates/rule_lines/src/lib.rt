@@ -1,2 +1,4 @@
 // The rule lines of a model text: the name, the names of earlier rules, the expression.
+#![tactic(auto)]
+
 pub mod names;

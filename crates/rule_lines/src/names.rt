@@ -8,7 +8,7 @@ use lines::line::End;
 
 // Where the parts of a rule stand in the text: its name and its step part; and how many bytes behind the first of the step part its start part begins,
 // 0 where it has none. A step part has at most 64 bytes, and the places of all rules are handed on by value, so that is one byte.
-#[derive(Drop)]
+#[derive(Clone, Copy)]
 pub struct RuleParts {
     pub name: usize,
     pub step: usize,
@@ -16,7 +16,7 @@ pub struct RuleParts {
 }
 
 // What reading a rule line gives: the number that refuses it; or where its parts stand, and how many bytes it has with its byte 10.
-#[derive(Drop)]
+#[derive(Clone, Copy)]
 pub enum RuleLine {
     RuleFault(u8),
     RuleRead(RuleParts, usize),

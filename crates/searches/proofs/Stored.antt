@@ -27,9 +27,9 @@ use Rattle.systems.specs.Verdict.{trace_of}
 use Rattle.systems.specs.Laws.Walks.{last_snoc, walk_last}
 use Rattle.traces.specs.Marked.{is_marked}
 use Rattle.searches.specs.Search.{Collection, try_state, starts_below, pair_tried, try_row, explored, search}
-use Rattle.searches.specs.Laws.SearchSteps.{is_marked_nil, is_marked_snoc, starts_below_zero, starts_below_next, next_unmarked, try_pair_tried, try_row_zero, try_row_next, try_row_stays, explored_next, explored_full}
-use Rattle.searches.specs.Laws.Search.{explored_collected, explored_short, search_ended, search_trace}
-use Rattle.searches.specs.Laws.Collecting.{explored_pairs}
+use Rattle.searches.proofs.Laws.SearchSteps.{is_marked_nil, is_marked_snoc, starts_below_zero, starts_below_next, next_unmarked, try_pair_tried, try_row_zero, try_row_next, try_row_stays, explored_next, explored_full}
+use Rattle.searches.proofs.Laws.Search.{explored_collected, explored_short, search_ended, search_trace}
+use Rattle.searches.proofs.Laws.Collecting.{explored_pairs}
 use Rattle.traces.specs.Stored.{runs_to, runs_in, Sound}
 use Rattle.searches.specs.Stored.{collection_in, with_run, Stores, reached_of}
 use Rattle.traces.specs.Laws.Runs.{same_place, sound_length, sound_last, get_d_repeat}

@@ -1,5 +1,5 @@
 -- What document 02 says of the collecting of the reached states ("Stop when everything is reached"), for any transition system. The theorem is in
--- `Laws.Collecting`: the marks and the pairs of the search are such. Assumes nothing: these are definitions.
+-- proofs/Laws/Collecting: the marks and the pairs of the search are such. Assumes nothing: these are definitions.
 use Rattle.std.specs.Prelude.{ℕ, ◌+◌, ◌*◌, ◌≤◌, ◌<◌, ◌≡◌, ◌↔◌, Bool, true}
 use Rattle.systems.specs.Count.{count}
 use Rattle.systems.specs.System.{System, Reached}

@@ -1,7 +1,2 @@
--- What is proved of the breadth-first search: `Search` proves that it finds the reached states and the trace, `Collecting` how many pairs it tries. The
--- others have the laws that these and the proofs of code rest on.
+-- What is proved of the order of runs. What is proved of the breadth-first search itself stands in proofs/Laws.
 pub mod Sooner
-pub mod SearchSteps
-pub mod Search
-pub mod Stored
-pub mod Collecting

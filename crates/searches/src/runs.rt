@@ -5,7 +5,7 @@ ghost use Rattle.searches.specs.Stored.{Markable, with_run};
 use traces::runs::Runs;
 
 // The reached states as document 01 holds them, a mark for each and how many marks are set; and how many pairs of states were tried.
-#[derive(Drop)]
+#[derive(Clone, Copy)]
 pub struct Reached {
     pub marks: [bool; 128],
     pub count: usize,

@@ -24,8 +24,8 @@ use Rattle.sorting.specs.Kinds.{kinds_of}
 use Rattle.calls.specs.declared.answers.ListAnswer.{ListAnswer}
 use Rattle.calls.specs.Answers.{rules_in, judge_in, list_in, kind_in, list_answer, list_bytes}
 use Rattle.calls.specs.AsRead.{IsRead}
-use Rattle.calls.specs.Laws.Answers.{rules_le, rules_read_lem, read_model, list_enough}
-use Rattle.calls.specs.Laws.Sizes.{list_le, kind_lt}
+use Rattle.calls.proofs.Laws.Answers.{rules_le, rules_read_lem, read_model_lem, list_enough}
+use Rattle.calls.proofs.Laws.Sizes.{list_le, kind_lt}
 use Rattle.sections.specs.Sections.{set_line, kind_lines}
 use Rattle.sections.specs.Decoded.{decoded, sets_written, AllBelow}
 use Rattle.sections.specs.Known.{SetRead, ListRead}
@@ -42,7 +42,7 @@ pub record KindsRead (text : List ℕ) (m : Model) (k : Kinds) : Type 0 where
 module _ (text : List ℕ) (m : Model) (r : IsRead text m) (k : Kinds) (said : k ≡ kinds_of m.rules (judge (described text m))) where
   gave : k ≡ kinds_of (rules_in text) (judge_in text)
   unfolding judge_in
-  gave = said ∙ ap₂ (λ (R : ℕ) D. kinds_of R (judge D)) (rules_read_lem r) (read_model r)
+  gave = said ∙ ap₂ (λ (R : ℕ) D. kinds_of R (judge D)) (rules_read_lem r) (read_model_lem r)
 
   own : (kind : Kind) {S : ℕ} → S ≡ of_kind kind (rules_in text) (judge_in text) → SetRead text m S
   unfolding kind_in

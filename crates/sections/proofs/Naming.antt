@@ -18,9 +18,9 @@ use Rattle.lines.specs.Bytes.{bytes}
 use Rattle.rule_lines.specs.RuleLines.{name_of}
 use Rattle.models.specs.declared.model.Model.{Model}
 use Rattle.models.specs.Written.{Described, model_in, rule_in, rule_at}
-use Rattle.models.specs.Laws.Written.{described_rule}
+use Rattle.models.proofs.Laws.Written.{described_rule}
 use Rattle.calls.specs.Answers.{rules_in}
-use Rattle.calls.specs.Laws.Answers.{read_model, rules_le, rules_read_lem}
+use Rattle.calls.proofs.Laws.Answers.{read_model_lem, rules_le, rules_read_lem}
 use Rattle.pages.specs.Page.{Page, put_byte, put}
 use Rattle.sections.specs.Sections.{separated, name_in, set_text}
 use Rattle.sections.specs.Known.{RuleRead, SetRead}
@@ -32,7 +32,7 @@ pub name_is : (text : List ℕ) (m : Model) (i : ℕ) → RuleRead text m i → 
 unfolding name_in rule_in
 name_is text m i k =
     sym (ap (λ r. r.name) (described_rule text m i k.below))
-    ∙ ap (λ (D : Described). (rule_at D.rules i).name) (read_model k.read)
+    ∙ ap (λ (D : Described). (rule_at D.rules i).name) (read_model_lem k.read)
 
 -- the names of the rules of a set, each after a comma
 unfoldable pub others : Described → ℕ → List ℕ

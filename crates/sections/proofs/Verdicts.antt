@@ -15,11 +15,11 @@ use Rattle.lines.specs.Bytes.{bytes}
 use Rattle.lines.specs.Written.{line}
 use Rattle.models.specs.declared.model.Model.{Model}
 use Rattle.models.specs.Written.{Described, described, model_in}
-use Rattle.models.specs.Accepted.{told}
+use Rattle.models.proofs.Accepted.{told}
 use Rattle.models.specs.Changed.{by_property}
 use Rattle.models.specs.Places.{places_by_property}
-use Rattle.models.specs.Laws.Written.{described_properties}
-use Rattle.models.specs.Laws.Changed.{described_by_property}
+use Rattle.models.proofs.Laws.Written.{described_properties}
+use Rattle.models.proofs.Laws.Changed.{described_by_property}
 use Rattle.traces.specs.declared.trace.Trace.{Trace}
 use Rattle.systems.specs.System.{System}
 use Rattle.systems.specs.Verdict.{holds, trace_of}
@@ -29,7 +29,7 @@ use Rattle.semantics.specs.Meaning.{system_of}
 use Rattle.semantics.specs.TablesOf.{Few}
 use Rattle.calls.specs.Answers.{rules_in, text_outcome}
 use Rattle.calls.specs.AsRead.{IsRead}
-use Rattle.calls.specs.Laws.Answers.{few, read_model, rules_read_lem}
+use Rattle.calls.proofs.Laws.Answers.{few, read_model_lem, rules_read_lem}
 use Rattle.pages.specs.Page.{Page, put}
 use Rattle.pages.specs.Numbers.{number_line}
 use Rattle.pages.specs.Laws.Putting.{Putting, next, ended, put_as}
@@ -79,13 +79,13 @@ abbrev pub Verdicts : (M : Described) (p₀ p : Page) (j : ℕ) → Type 0
 Verdicts M p₀ p j = Putting (verdict_by M) (tabulate (length M.props) (λ j. j)) p₀ p j
 
 module _ (text : List ℕ) (m : Model) (r : IsRead text m) where
-  property_count : length (model_in text).props ≡ m.properties
-  property_count = ap (λ (M : Described). length M.props) (sym (read_model r)) ∙ described_properties text m
+  property_count_lem : length (model_in text).props ≡ m.properties
+  property_count_lem = ap (λ (M : Described). length M.props) (sym (read_model_lem r)) ∙ described_properties text m
 
   -- There is a property.
   pub some_property : 1 ≤ m.properties
   unfolding text_outcome
-  some_property = omega (arith, property_count, (told text r.outcome).legal.properties.at_least)
+  some_property = omega (arith, property_count_lem, (told text r.outcome).legal.properties.at_least)
 
   -- There is an entry for the place of each.
   pub place_fits : (j : ℕ) → j ≤ m.properties - 1 → j < 4
@@ -101,18 +101,18 @@ module _ (text : List ℕ) (m : Model) (r : IsRead text m) where
   unfolding verdict_by places_by_property rules_in
   verdict_alone j h alone e =
       ap₂ (λ (M : Described) (R : ℕ). verdict_lines (system_of M (full R)))
-      (ap (described text) e ∙ described_by_property j text m h ∙ ap (by_property j) (read_model r))
+      (ap (described text) e ∙ described_by_property j text m h ∙ ap (by_property j) (read_model_lem r))
       (ap (λ (x : Model). x.rules) e ∙ rules_read_lem r)
 
   module _ (p₀ p : Page) (j : ℕ) (w : Verdicts (model_in text) p₀ p j) where
     count : length (tabulate (length (model_in text).props) (λ j. j)) ≡ m.properties
-    count = length_tabulate (length (model_in text).props) (λ j. j) ∙ property_count
+    count = length_tabulate (length (model_in text).props) (λ j. j) ∙ property_count_lem
 
     pub next_put : j ≤ m.properties - 1 → (alone : Model) → alone ≡ places_by_property j m
         → (q : Page) → q ≡ put (verdict_lines (system_of (described text alone) (full alone.rules))) p → Verdicts (model_in text) p₀ q (j + 1)
     next_put h alone e q put_is =
         let below : j < m.properties = omega (arith, some_property) in
-        let same = get_d_tabulate (length (model_in text).props) (λ j. j) 0 j (omega (arith, property_count, below)) in
+        let same = get_d_tabulate (length (model_in text).props) (λ j. j) 0 j (omega (arith, property_count_lem, below)) in
         next _ _ p₀ p j w (omega (arith, count, below)) q
         (put_as _ _ p q put_is (verdict_alone j below alone e ∙ ap (verdict_by (model_in text)) (sym same)))
 

@@ -14,7 +14,7 @@ use lib.Seq.{length-take-le, take_at, drop_at, drop-drop}
 use Rattle.sets.specs.Tabulated.{tabulate}
 use Rattle.sets.specs.Laws.Tabulated.{length_tabulate, tabulated, same_entries, next_stored, in_parts, part_stored, below_next, none_marked, next_marked}
 use Rattle.semantics.specs.TablesOf.{marks_of, row_entry, rows_of}
-use Rattle.semantics.specs.Laws.TablesOf.{entry_at}
+use Rattle.semantics.proofs.Laws.TablesOf.{entry_at}
 
 -- ---- the marks
 

@@ -90,9 +90,9 @@ module _ (words : List ℕ) (t : ℕ) where
   pub no_rule : 0 ≡ set_of 64 (in_four words t 0)
   no_rule = set_of_none 64 ∙ set_of_same 64 _ (in_four words t 0) (λ n l. rw (le-ltb (n % 16) 0 zero-le))
 
-  pub with_rule : (i four bits : ℕ) → i < 16 → four ≡ set_of 64 (in_four words t i) → bits ≡ spread_of (get_or words i 0 / 2 ^ t % 16)
+  pub with_rule_lem : (i four bits : ℕ) → i < 16 → four ≡ set_of 64 (in_four words t i) → bits ≡ spread_of (get_or words i 0 / 2 ^ t % 16)
       → bit_or four (bits * 2 ^ i % 2 ^ 64) ≡ set_of 64 (in_four words t (i + 1))
-  with_rule i four bits h e said =
+  with_rule_lem i four bits h e said =
       let w = get_or words i 0 in
       rw (e, said)
       (or_set_of 64 (set_of 64 (in_four words t i)) (spread_of (w / 2 ^ t % 16) * 2 ^ i % 2 ^ 64) (set_of_lt 64 (in_four words t i)) (omega arith)

@@ -1,5 +1,5 @@
 -- What code reads at single places of the text: whether two states meet the expression there, whether a state meets a start part, and the values of an
--- expression at 64 next states at once, one bit each. `Rattle.semantics.specs.Laws.Places` joins this to the model that the text tells. Assumes nothing: these are definitions.
+-- expression at 64 next states at once, one bit each. `Rattle.semantics.proofs.Laws.Places` joins this to the model that the text tells. Assumes nothing: these are definitions.
 use Rattle.std.specs.Prelude.{ℕ, zero, suc, ◌+◌, ◌*◌, ◌≤◌, ◌<◌, ◌≡◌, Bool, true, cond, List, ltb, length, get_or, drop}
 use Rattle.sets.specs.Gathered.{set_of}
 use Rattle.sets.specs.Tabulated.{tabulate}

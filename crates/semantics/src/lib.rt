@@ -1,4 +1,6 @@
 // What a model and a rule set mean, as tables: the masks of the pairs of states and the marks of the states, filled from the text.
+#![tactic(auto)]
+
 mod masks;
 mod starts;
 pub mod tables;

@@ -1,5 +1,5 @@
 -- Demand 3 of the mission for R rules and any judgement h of their sets: what it says of a core list, a cut list and MUST.
--- A named part for each sentence of documents 00 and 01. The theorem is in `Laws.Demand3`: for a monotone judgement all of it is true of the
+-- A named part for each sentence of documents 00 and 01. The theorem is in proofs/Laws/Demand3: for a monotone judgement all of it is true of the
 -- lists in `Lists`. Assumes nothing: these are definitions.
 use Rattle.std.specs.Prelude.{ℕ, ◌^◌, ◌<◌, ◌≡◌, ◌↔◌, Bool, true, false, length, get_or}
 use mathlib.Core.List.{List, [], ◌∷◌, Memᴰ}

@@ -1,5 +1,5 @@
 -- Several judgements of rule sets together, any number of them: the judgement by all, and how its cores come from the cores by each.
--- From document 02, "Several properties together". The theorem is in `Laws.Joint`: for monotone judgements all of `JointCores` is true.
+-- From document 02, "Several properties together". The theorem is in proofs/Laws/Joint: for monotone judgements all of `JointCores` is true.
 -- Assumes nothing: these are definitions.
 use Rattle.std.specs.Prelude.{ℕ, ◌↔◌, Bool}
 use mathlib.Core.List.{List, [], ◌∷◌, Memᴰ}

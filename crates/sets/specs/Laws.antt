@@ -1,4 +1,5 @@
--- The laws of this crate: what is proved of the definitions that stand one folder above.
+-- The laws of this crate: what is proved of the definitions that stand one folder above. What rests on the meaning of
+-- MUST or of one core stands in proofs/Laws.
 pub mod Bit
 pub mod Sets
 pub mod Cores
@@ -10,19 +11,10 @@ pub mod Choice
 pub mod Rows
 pub mod First
 pub mod Listed
-pub mod Must
-pub mod ByNumber
 pub mod Edges
-pub mod Duality
-pub mod MustRules
 pub mod Neighbours
 pub mod Growth
 pub mod Steps
-pub mod Demand3
-pub mod Kinds
 pub mod Orders
-pub mod OneCore
 pub mod Kept
 pub mod OneList
-pub mod Renumbered
-pub mod Joint

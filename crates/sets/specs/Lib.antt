@@ -1,5 +1,5 @@
 -- A rule set as a number, and the theory of cores and cuts for any judgement of rule sets. The definitions stand here; what is proved of
--- them stands in `Laws`.
+-- them stands in `Laws` and, of the lists, MUST, the kinds and one core, in proofs/Laws.
 pub mod Bit
 pub mod Tabulated
 pub mod Gathered

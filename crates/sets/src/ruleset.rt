@@ -5,7 +5,7 @@ ghost use Rattle.std.specs.Int.Count.{ones, count_trailing_zeros};
 ghost use Rattle.sets.specs.Bit.{has, full};
 ghost use Rattle.sets.specs.Sets.{without, with};
 
-#[derive(Drop)]
+#[derive(Clone, Copy)]
 pub struct RuleSet(pub u16);
 
 // How many sets of so many rules there are: each set's number is below it.

@@ -9,7 +9,7 @@ ghost use Rattle.sorting.specs.Kinds.{kinds_by};
 use sets::ruleset::RuleSet;
 
 // Which kind is meant.
-#[derive(Drop)]
+#[derive(Clone, Copy)]
 pub enum Kind {
     Must,
     May,
@@ -17,7 +17,7 @@ pub enum Kind {
 }
 
 // The rules of each kind.
-#[derive(Drop)]
+#[derive(Clone, Copy)]
 pub struct Kinds {
     pub must: u16,
     pub may: u16,

@@ -1,6 +1,6 @@
 // Which of the two lists is meant.
 
-#[derive(Drop)]
+#[derive(Clone, Copy)]
 pub enum WhichList {
     Cores,
     Cuts,

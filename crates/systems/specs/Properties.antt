@@ -1,5 +1,5 @@
 -- Several properties of one transition system, any number of them: what they say together and what each says alone. From document 02, "Several
--- properties together". The theorem is in `Laws.Properties`: where `Jointly` is true, all of `JointlyJudged` is. Assumes nothing: these are definitions.
+-- properties together". The theorem is in proofs/Properties: where `Jointly` is true, all of `JointlyJudged` is. Assumes nothing: these are definitions.
 use Rattle.std.specs.Prelude.{ℕ, ◌≤◌, ◌<◌, ◌≡◌, ◌↔◌, ◌⊎◌, true, false, List, length}
 use Rattle.systems.specs.System.{System, Earlier}
 use Rattle.systems.specs.Verdict.{holds, trace_of}

@@ -2,7 +2,7 @@
 // set of the rules whose start part each state meets.
 
 // How many rules and states there are, which states meet `init` and which are bad.
-#[derive(Drop)]
+#[derive(Clone, Copy)]
 pub struct Tables {
     pub rules: usize,
     pub states: usize,

@@ -1,5 +1,5 @@
 -- How arrays hold the runs that a search has found. Assumes nothing: these are definitions.
-use Rattle.std.specs.Prelude.{ℕ, zero, suc, ◌+◌, ◌<◌, ◌≡◌, false, List, [], ◌∷◌, ◌++◌, length, get_or}
+use Rattle.std.specs.Prelude.{ℕ, zero, suc, ◌<◌, ◌≡◌, false, List, [], ◌∷◌, ◌++◌, length, get_or}
 use Rattle.traces.specs.declared.runs.Runs.{Runs}
 use Rattle.systems.specs.Count.{count}
 use Rattle.traces.specs.Marked.{is_marked}

@@ -2,7 +2,7 @@
 
 // The reached states so far, with a run to each. The runs stand in the order of marking: `order` has their last states, and `parents` the
 // places of the runs that they extend by that state, 128 where the state stands alone. `pairs` counts the pairs of states tried.
-#[derive(Drop)]
+#[derive(Clone, Copy)]
 pub struct Runs {
     pub marks: [bool; 128],
     pub count: usize,

@@ -9,7 +9,7 @@ use crate::runs::Runs;
 use systems::tables::Tables;
 
 // So many states; what follows them is 0. A set that holds has none.
-#[derive(Drop)]
+#[derive(Clone, Copy)]
 pub struct Trace {
     pub length: usize,
     pub states: [u8; 128],

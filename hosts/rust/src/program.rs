@@ -16,7 +16,7 @@ pub struct Program {
 }
 
 impl Program {
-    /// The program that CODREMIF_REPORT names, or the one that `rt check report` writes. Panics where it is missing.
+    /// The program that CODREMIF_REPORT names, or the one that `./report` has built. Panics where it is missing.
     pub fn found() -> Program {
         let path = match std::env::var_os("CODREMIF_REPORT") {
             Some(path) => PathBuf::from(path),
@@ -24,7 +24,7 @@ impl Program {
         };
         assert!(
             path.is_file(),
-            "the report program {} is missing: run `rt check report` in the top folder of the repository, or set CODREMIF_REPORT",
+            "the report program {} is missing: run `./report models/tremor.txt` in the top folder of the repository, or set CODREMIF_REPORT",
             path.display()
         );
         Program { path }

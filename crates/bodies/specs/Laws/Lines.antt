@@ -1,6 +1,6 @@
 -- What follows the first line of a text, in terms of the bytes before the first byte 10. From the definition of `after_line`, by the laws of bytes.
 -- Assumes nothing.
-use Rattle.std.specs.Prelude.{ℕ, suc, ◌+◌, ◌≡◌, refl, Bool, true, false, cond, not, List, [], ◌∷◌, ◌++◌, eqb, length, drop}
+use Rattle.std.specs.Prelude.{ℕ, suc, ◌≡◌, refl, Bool, true, false, cond, not, List, [], ◌∷◌, ◌++◌, eqb, length, drop}
 use Rattle.std.proofs.Common.{sym, ap, ◌∙◌, add-one}
 use Rattle.std.proofs.Math.Seq.{drop-append-add}
 use Rattle.lines.specs.declared.classes.Class.TheVariants.{InLine}

@@ -8,8 +8,8 @@ use Rattle.rule_lines.specs.declared.names.RuleLine.{RuleLine}
 use Rattle.lines.specs.Lines.{starts_with, prop_key}
 use Rattle.rule_lines.specs.RuleLines.{is_taken}
 use Rattle.lines.specs.Written.{Within}
-use Rattle.lines.specs.Laws.Heard.{Heard, fault, said, state_heard}
-use Rattle.rule_lines.specs.Laws.Heard.{RuleHeard, rule_fault, rule_said, rule_heard}
+use Rattle.lines.proofs.Laws.Heard.{Heard, fault, said, state_heard}
+use Rattle.rule_lines.proofs.Laws.Heard.{RuleHeard, rule_fault, rule_said, rule_heard}
 use Rattle.bodies.specs.declared.progress.LineStart.{LineStart}
 use Rattle.bodies.specs.declared.progress.Progress.{Progress}
 use Rattle.bodies.specs.Places.{Placed, Passes}

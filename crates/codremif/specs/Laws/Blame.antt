@@ -1,4 +1,4 @@
--- What `Blame` says is true of every accepted text and every accepted log. From the run that the log is (`Rattle.blaming.specs.Laws.Run`), from the duality
+-- What `Blame` says is true of every accepted text and every accepted log. From the run that the log is (`Rattle.blaming.proofs.Laws.Run`), from the duality
 -- of cores and cuts, and from where the sets of a list stand in its bytes (`lookup`). Assumes nothing.
 use Rattle.std.specs.Prelude.{ℕ, ◌-◌, ◌<◌, ◌≡◌, Bool, false, List, length}
 use Rattle.std.proofs.Math.Path.{refl}
@@ -10,7 +10,7 @@ use Rattle.sets.specs.Cores.{Cut, breaks}
 use Rattle.sets.specs.Lists.{bytes_of, cores_of, cuts_of}
 use Rattle.sets.specs.Laws.Cores.{breaks_iff, breaks_core}
 use Rattle.sets.specs.Laws.Sets.{part_le}
-use Rattle.sets.specs.Laws.Duality.{duality, breaks_monotone}
+use Rattle.sets.proofs.Laws.Duality.{duality, breaks_monotone}
 use Rattle.sets.specs.Laws.Listed.{cores_of_lists, cuts_of_lists}
 use Rattle.models.specs.declared.model.Outcome.TheVariants.{Accepted}
 use Rattle.lookup.specs.Laws.Lists.{stands, is_listed, core_small, cut_small}
@@ -18,11 +18,11 @@ use Rattle.sorting.specs.declared.which.WhichList.TheVariants.{Cores, Cuts}
 use Rattle.sorting.specs.Which as Which
 use Rattle.logs.specs.declared.blame.Blamed.{Blamed}
 use Rattle.calls.specs.Answers.{rules_in, judge_in, list_in, text_outcome}
-use Rattle.calls.specs.Laws.Answers.{rules_most}
+use Rattle.calls.proofs.Laws.Answers.{rules_most}
 use Rattle.blaming.specs.declared.answer.BlameAnswer.TheVariants.{BreachAt, NoBreach}
 use Rattle.blaming.specs.Answer.{blame_in, blamed_answer, blame_answer}
-use Rattle.blaming.specs.Laws.Answer.{blame_says, blamed_below, breach_told, none_told, blame_given}
-use Rattle.blaming.specs.Laws.Run.{log_breach, kept_broken}
+use Rattle.blaming.proofs.Laws.Answer.{blame_says, blamed_below, breach_told, none_told, blame_given}
+use Rattle.blaming.proofs.Laws.Run.{log_breach, kept_broken}
 use Rattle.packing.specs.Packing.{accepted, blame_parts, breach_number, packed}
 use Rattle.codremif.specs.Suffices.{TextTelling, text_by_answers, text_by_hosts}
 use Rattle.codremif.specs.OneCore.{StandsIn}

@@ -1,5 +1,5 @@
 -- Demand 1 is true of every call: it is refused by the first fitting number and its line, every other part of the answer is then 0, and no lent
--- byte changes; where no number fits it is accepted. From the theorem about reading (`Rattle.models.specs.Refused`) and the laws of the answers.
+-- byte changes; where no number fits it is accepted. From the theorem about reading (`Rattle.models.proofs.Refused`) and the laws of the answers.
 use Rattle.std.specs.Prelude.{ℕ, ◌*◌, ◌^◌, ◌≤◌, ◌<◌, ◌≡◌, ◌↔◌, ◌⊎◌, Bool, get_or}
 use Rattle.std.proofs.Math.Path.{refl, ap, subst}
 use Rattle.std.proofs.Common.{sym, ap₂, ◌∙◌, subst₂, inl, inr, true≢false, arith}
@@ -13,13 +13,13 @@ use Rattle.sets.specs.Laws.Orders.{order_or_not}
 use Rattle.models.specs.declared.model.Outcome.{Outcome}
 use Rattle.models.specs.declared.model.Outcome.TheVariants.{Accepted, Refused}
 use Rattle.models.specs.Refusals.{FitsAt, line_missing, count_wrong, name_improper, name_taken, length_wrong, byte_other, letter_beyond, letter_capital, not_one, bytes_follow, First}
-use Rattle.models.specs.Laws.Refusals.{RightOutcome, none_fits, first_fits, right_outcome}
+use Rattle.models.proofs.Laws.Refusals.{RightOutcome, none_fits, first_fits, right_outcome}
 use Rattle.models.specs.Written.{model_in}
 use Rattle.systems.specs.System.{System, Trace}
 use Rattle.systems.specs.Verdict.{holds, trace_of}
 use Rattle.systems.specs.Judged.{judged}
 use Rattle.logs.specs.Log.{IsLog}
-use Rattle.logs.specs.Laws.Log.{log_or_not}
+use Rattle.logs.proofs.Laws.Log.{log_or_not}
 use Rattle.semantics.specs.Meaning.{init_met}
 use Rattle.sorting.specs.declared.which.WhichList.{WhichList}
 use Rattle.calls.specs.declared.answers.JudgeAnswer.TheVariants.{Refused as JudgeRefused}
@@ -29,13 +29,13 @@ use Rattle.calls.specs.declared.answers.SetAnswer.TheVariants.{Refused as SetRef
 use Rattle.calls.specs.Answers.{rules_in, states_in, system_in, trace_in, marks_in, pairs_in, list_in, kind_in, text_outcome, asked_outcome, judge_outcome, reached_outcome, list_outcome, given, after, judge_answer, judge_bytes, reached_answer, reached_bytes, list_answer, list_bytes, kind_answer}
 use Rattle.preferences.specs.declared.answer.OneCoreAnswer.TheVariants.{Refused as OneCoreRefused}
 use Rattle.preferences.specs.Answer.{one_core_in, one_core_outcome, one_core_answer}
-use Rattle.preferences.specs.Laws.Answer.{OneCoreNumbers, one_core_numbers, found_told}
+use Rattle.preferences.proofs.Laws.Answer.{OneCoreNumbers, one_core_numbers, found_told}
 use Rattle.blaming.specs.declared.answer.BlameAnswer.TheVariants.{Refused as BlameRefused}
 use Rattle.blaming.specs.Answer.{blame_in, blame_outcome, blame_answer}
-use Rattle.blaming.specs.Laws.Answer.{BlameNumbers, blame_numbers, blamed_told}
+use Rattle.blaming.proofs.Laws.Answer.{BlameNumbers, blame_numbers, blamed_told}
 use Rattle.packing.specs.Packing.{Parts, refused, judge_parts, reached_parts, list_parts, set_parts, one_core_parts, blame_parts, breach_number, packed}
 use Rattle.codremif.specs.Demand1.{CallFits, text_fits, own_fits, AskedOwn, set_beyond, bytes_fewer, TraceLonger, JudgeFits, ReachedFits, ListOwn, list_longer, ListFits, OneCoreOwn, no_order, OneCoreFits, BlameOwn, no_log, init_unmet, BlameFits, FirstOf, Refusals, Demand1, HostRefusals, HostDemand1}
-use Rattle.calls.specs.Laws.Answers.{AskedNumbers, asked_numbers, ListNumbers, list_numbers, given_refused, given_accepted, refusal_given, not_refused, length_marks, pairs_told}
+use Rattle.calls.proofs.Laws.Answers.{AskedNumbers, asked_numbers, ListNumbers, list_numbers, given_refused, given_accepted, refusal_given, not_refused, length_marks, pairs_told}
 use Rattle.codremif.specs.Laws.Host.{HostReads, judge_reads, reached_reads, list_reads, kind_reads, one_core_reads, blame_reads}
 
 -- ---- the numbers of a text are 1 to 9

@@ -17,7 +17,7 @@ use Rattle.systems.specs.Judged.{judged}
 use Rattle.calls.specs.declared.answers.JudgeAnswer.TheVariants.{Refused as JudgeRefused, Holds, Broken}
 use Rattle.calls.specs.Answers.{rules_in, system_in, trace_in, text_outcome, verdict_of, judge_answer, judge_bytes}
 use Rattle.codremif.specs.Demand2.{Demand2}
-use Rattle.calls.specs.Laws.Answers.{judge_numbers, judge_enough, given_refused, verdict_held, held_verdict, broken_verdict, not_refused}
+use Rattle.calls.proofs.Laws.Answers.{judge_numbers, judge_enough, given_refused, verdict_held, held_verdict, broken_verdict, not_refused}
 
 -- Judging a set is refused by 11, or answers the verdict and writes the trace.
 data Ends (text : List ℕ) (S : ℕ) (lent : List ℕ) : Type 0 where

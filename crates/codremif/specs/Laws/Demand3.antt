@@ -3,17 +3,17 @@
 use Rattle.std.specs.Prelude.{ℕ, ◌^◌, ◌<◌, ◌≡◌, refl, ◌↔◌, true, List}
 use Rattle.std.proofs.Math.Path.{ap}
 use Rattle.std.proofs.Common.{◌∙◌, arith}
-use Rattle.std.proofs.Math.Logic.{Iff·trans, Iff·symm}
+use Rattle.std.proofs.Math.Logic.Iff
 use Rattle.sets.specs.Cores.{Monotone}
 use Rattle.sets.specs.Demand3.{Demand3}
-use Rattle.sets.specs.Laws.Demand3.{demand3}
+use Rattle.sets.proofs.Laws.Demand3.{demand3}
 use Rattle.models.specs.declared.model.Outcome.TheVariants.{Accepted}
 use Rattle.models.specs.Written.{model_in}
 use Rattle.systems.specs.System.{Breach}
 use Rattle.systems.specs.Laws.Walks.{holds_no_breach, no_breach_holds}
 use Rattle.systems.specs.Judged.{judged}
 use Rattle.semantics.specs.Meaning.{judge}
-use Rattle.semantics.specs.Laws.Meaning.{judge_monotone}
+use Rattle.semantics.proofs.Laws.Meaning.{judge_monotone}
 use Rattle.sorting.specs.declared.which.WhichList.{WhichList}
 use Rattle.sorting.specs.declared.which.WhichList.TheVariants.{Cores, Cuts}
 use Rattle.sorting.specs.Which.{listed, of_kind}
@@ -26,7 +26,7 @@ use Rattle.calls.specs.declared.answers.SetAnswer.{SetAnswer}
 use Rattle.calls.specs.Answers.{rules_in, system_in, judge_in, list_in, kind_in, text_outcome, judge_answer, list_answer, list_bytes, after}
 use Rattle.packing.specs.Packing.{accepted, refused, judge_parts, list_parts, set_parts, packed}
 use Rattle.codremif.specs.Demand3.{in_rattle, for_hosts, Asked, GivesList, Judges, TextDemand3, AsCalled, host_asked}
-use Rattle.calls.specs.Laws.Answers.{list_numbers, list_enough, kind_given, given_refused}
+use Rattle.calls.proofs.Laws.Answers.{list_numbers, list_enough, kind_given, given_refused}
 use Rattle.codremif.specs.Laws.Demand2.{judging_meets_demand2}
 use Rattle.codremif.specs.Laws.Host.{judge_reads}
 
@@ -62,7 +62,7 @@ module _ (text : List ℕ) (model : text_outcome text ≡ Accepted) where
 
   -- A set holds exactly when judging it answers so.
   pub by_call : (S : ℕ) → S < 2 ^ rules_in text → (lent : List ℕ) → (judge_in text S ≡ true) ↔ (judge_answer text S lent ≡ Holds)
-  by_call S l lent = Iff·trans (by_runs S l) (Iff·symm (judging_meets_demand2 text model S l lent).held)
+  by_call S l lent = Iff.trans (by_runs S l) (Iff.symm (judging_meets_demand2 text model S l lent).held)
 
   -- So it is told by the call in Rattle, and by the exported one.
   pub judges_in : Judges in_rattle text (judge_in text)
@@ -71,7 +71,7 @@ module _ (text : List ℕ) (model : text_outcome text ≡ Accepted) where
 
   pub judges_packed : Judges for_hosts text (judge_in text)
   unfolding for_hosts
-  judges_packed = record { by_runs = by_runs; by_call = λ S l lent. Iff·trans (by_call S l lent) (Iff·symm (holds_packed text S lent)) }
+  judges_packed = record { by_runs = by_runs; by_call = λ S l lent. Iff.trans (by_call S l lent) (Iff.symm (holds_packed text S lent)) }
 
   the_lists : Demand3 (rules_in text) (judge_in text) (list_in Cores text) (list_in Cuts text) (kind_in Must text)
   unfolding list_in listed kind_in of_kind

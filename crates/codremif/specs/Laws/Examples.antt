@@ -20,7 +20,7 @@ use Rattle.sorting.specs.declared.kinds.Kind.TheVariants.{Must}
 use Rattle.calls.specs.declared.answers.SetAnswer.TheVariants.{Set}
 use Rattle.calls.specs.Answers.{rules_in, system_in, trace_in, list_in, kind_in, text_outcome, verdict_of}
 use Rattle.codremif.specs.Examples.{Case, table, verdict_for, expected_list, Answered}
-use Rattle.calls.specs.Laws.Answers.{judge_enough, list_enough, kind_given}
+use Rattle.calls.proofs.Laws.Answers.{judge_enough, list_enough, kind_given}
 
 -- What is computed from the text of a case, and what the table expects.
 record Meaning : Type 0 where

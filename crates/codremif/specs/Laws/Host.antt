@@ -8,7 +8,7 @@ use Rattle.sets.specs.Orders.{is_order}
 use Rattle.models.specs.declared.model.Outcome.{Outcome}
 use Rattle.models.specs.declared.model.Outcome.TheVariants.{Accepted, Refused}
 use Rattle.models.specs.Reading.{read_model}
-use Rattle.models.specs.Laws.Ranges.{Refusal, ranges}
+use Rattle.models.proofs.Laws.Ranges.{Refusal, ranges}
 use Rattle.models.specs.Written.{model_in}
 use Rattle.systems.specs.Verdict.{holds, trace_of}
 use Rattle.logs.specs.Log.{is_log}
@@ -19,16 +19,16 @@ use Rattle.calls.specs.declared.answers.JudgeAnswer.TheVariants.{Refused as Judg
 use Rattle.calls.specs.declared.answers.ReachedAnswer.TheVariants.{Refused as ReachedRefused}
 use Rattle.calls.specs.declared.answers.ListAnswer.TheVariants.{Refused as ListRefused}
 use Rattle.calls.specs.declared.answers.SetAnswer.TheVariants.{Refused as SetRefused}
-use Rattle.calls.specs.Answers.{rules_in, states_in, system_in, trace_in, marks_in, pairs_in, list_in, kind_in, ◌orElse◌, refused_if, text_outcome, asked_outcome, judge_outcome, reached_outcome, list_outcome, given, verdict_of, judge_answer, reached_answer, list_answer, kind_answer}
+use Rattle.calls.specs.Answers.{rules_in, states_in, system_in, trace_in, marks_in, pairs_in, list_in, kind_in, ◌or_else◌, refused_if, text_outcome, asked_outcome, judge_outcome, reached_outcome, list_outcome, given, verdict_of, judge_answer, reached_answer, list_answer, kind_answer}
 use Rattle.preferences.specs.declared.answer.OneCoreAnswer.TheVariants.{Refused as OneCoreRefused, CoreFound, NoCore}
 use Rattle.preferences.specs.Answer.{order_outcome, one_core_outcome, one_core_in, found_answer, one_core_answer}
-use Rattle.preferences.specs.Laws.Answer.{one_core_fits}
+use Rattle.preferences.proofs.Laws.Answer.{one_core_fits}
 use Rattle.blaming.specs.declared.answer.BlameAnswer.TheVariants.{Refused as BlameRefused, BreachAt, NoBreach}
 use Rattle.blaming.specs.Answer.{blame_in, log_outcome, init_outcome, blame_outcome, blamed_answer, blame_answer}
-use Rattle.blaming.specs.Laws.Answer.{blame_fits}
+use Rattle.blaming.proofs.Laws.Answer.{blame_fits}
 use Rattle.packing.specs.Packing.{InRange, Parts, counted, accepted, refused, judge_parts, reached_parts, list_parts, set_parts, one_core_parts, blame_parts, packed, Unpacked}
-use Rattle.calls.specs.Laws.Answers.{rules_most}
-use Rattle.calls.specs.Laws.Sizes.{trace_le, pairs_le, list_le, kind_lt}
+use Rattle.calls.proofs.Laws.Answers.{rules_most}
+use Rattle.calls.proofs.Laws.Sizes.{trace_le, pairs_le, list_le, kind_lt}
 use Rattle.packing.specs.Laws.Packing.{unpacked}
 
 -- ---- the numbers and lines of refusals
@@ -54,7 +54,7 @@ refused_if_numbered true number l h = one {line = 0} l h (omega arith)
 refused_if_numbered false number l h = none
 
 or_else_numbered : {o next : Outcome} → Numbered o → Numbered next → Numbered (o or_else next)
-unfolding ◌orElse◌
+unfolding ◌or_else◌
 or_else_numbered none n = n
 or_else_numbered (one l h g) n = one l h g
 

@@ -1,4 +1,4 @@
--- What `OneCore` says is true of every accepted text. From what is proved of any judgement (`Rattle.sets.specs.Laws.OneCore`), from the laws of the answer,
+-- What `OneCore` says is true of every accepted text. From what is proved of any judgement (`Rattle.sets.proofs.Laws.OneCore`), from the laws of the answer,
 -- and from where the sets of a list stand in its bytes (`lookup`). Assumes nothing.
 use Rattle.std.specs.Prelude.{ℕ, ◌+◌, ◌^◌, ◌<◌, ◌≡◌, Bool, true, false, List}
 use Rattle.std.proofs.Math.Path.{refl, sym, ap}
@@ -14,17 +14,17 @@ use Rattle.sets.specs.OneCore.{one_core_of}
 use Rattle.sets.specs.Laws.Cores.{false_if}
 use Rattle.sets.specs.Laws.Listed.{cores_of_lists}
 use Rattle.sets.specs.Laws.Orders.{outside_first_lem, outside_first_last}
-use Rattle.sets.specs.Laws.OneCore.{one_core_held, one_core_found, one_core_broken}
+use Rattle.sets.proofs.Laws.OneCore.{one_core_held, one_core_found, one_core_broken}
 use Rattle.models.specs.declared.model.Outcome.TheVariants.{Accepted}
 use Rattle.lookup.specs.Laws.Lists.{stands, is_listed, core_small}
 use Rattle.sorting.specs.declared.which.WhichList.TheVariants.{Cores}
 use Rattle.sorting.specs.Which as Which
 use Rattle.calls.specs.declared.answers.JudgeAnswer.TheVariants.{Broken}
 use Rattle.calls.specs.Answers.{rules_in, judge_in, list_in, text_outcome, judge_answer}
-use Rattle.calls.specs.Laws.Answers.{rules_most}
+use Rattle.calls.proofs.Laws.Answers.{rules_most}
 use Rattle.preferences.specs.declared.answer.OneCoreAnswer.TheVariants.{CoreFound, NoCore}
 use Rattle.preferences.specs.Answer.{one_core_in, found_answer, one_core_answer}
-use Rattle.preferences.specs.Laws.Answer.{one_core_given}
+use Rattle.preferences.proofs.Laws.Answer.{one_core_given}
 use Rattle.packing.specs.Packing.{counted, one_core_parts, packed}
 use Rattle.codremif.specs.Suffices.{TextTelling, text_by_answers, text_by_hosts}
 use Rattle.codremif.specs.OneCore.{OneCoreTelling, one_core_by_answers, one_core_by_hosts, StandsIn, InMyOrder}

@@ -12,8 +12,8 @@ use Rattle.sets.specs.OneCore.{one_core_of}
 use Rattle.models.specs.declared.model.Outcome.TheVariants.{Accepted}
 use Rattle.models.specs.Written.{Described, rule_at, Legal, written_model, model_in}
 use Rattle.models.specs.Changed.{starts_written_out}
-use Rattle.models.specs.Laws.Changed.{length_written_out, written_out_legal}
-use Rattle.models.specs.Accepted.{told_back}
+use Rattle.models.proofs.Laws.Changed.{length_written_out, written_out_legal}
+use Rattle.models.proofs.Accepted.{told_back}
 use Rattle.systems.specs.System.{System, last, Breach}
 use Rattle.systems.specs.Verdict.{holds, trace_of}
 use Rattle.systems.specs.Judged.{judged}
@@ -22,8 +22,8 @@ use Rattle.systems.specs.Laws.Holds.{breach_broken}
 use Rattle.traces.specs.Marked.{is_marked}
 use Rattle.searches.specs.Search.{search}
 use Rattle.semantics.specs.Meaning.{init_met, start_met, step_met, property_met, step_of, bad_of, system_of, judge}
-use Rattle.semantics.specs.Laws.Meaning.{start_iff, no_start_parts}
-use Rattle.semantics.specs.Laws.Changed.{written_out_start, written_out_step, written_out_system}
+use Rattle.semantics.proofs.Laws.Meaning.{start_iff, no_start_parts}
+use Rattle.semantics.proofs.Laws.Changed.{written_out_start, written_out_step, written_out_system}
 use Rattle.sorting.specs.declared.which.WhichList.{WhichList}
 use Rattle.sorting.specs.declared.kinds.Kind.{Kind}
 use Rattle.sorting.specs.Which.{listed, of_kind}
@@ -35,10 +35,10 @@ use Rattle.calls.specs.declared.answers.SetAnswer.TheVariants.{Refused as SetRef
 use Rattle.preferences.specs.declared.answer.OneCoreAnswer.TheVariants.{Refused as OneCoreRefused}
 use Rattle.preferences.specs.Answer.{one_core_in, order_outcome, one_core_outcome, found_answer, one_core_answer}
 use Rattle.logs.specs.Log.{is_log, blame_of}
-use Rattle.logs.specs.Laws.Log.{blame_same}
+use Rattle.logs.proofs.Laws.Log.{blame_same}
 use Rattle.blaming.specs.declared.answer.BlameAnswer.TheVariants.{Refused as BlameRefused}
 use Rattle.blaming.specs.Answer.{blame_in, log_outcome, init_outcome, blame_outcome, blamed_answer, blame_answer}
-use Rattle.calls.specs.Answers.{rules_in, states_in, system_in, judge_in, trace_in, marks_in, pairs_in, list_in, kind_in, ◌orElse◌, refused_if, text_outcome, set_outcome, length_outcome, asked_outcome, judge_outcome, reached_outcome, list_outcome, given, after, verdict_of, judge_answer, judge_bytes, reached_answer, reached_bytes, list_answer, list_bytes, kind_answer}
+use Rattle.calls.specs.Answers.{rules_in, states_in, system_in, judge_in, trace_in, marks_in, pairs_in, list_in, kind_in, ◌or_else◌, refused_if, text_outcome, set_outcome, length_outcome, asked_outcome, judge_outcome, reached_outcome, list_outcome, given, after, verdict_of, judge_answer, judge_bytes, reached_answer, reached_bytes, list_answer, list_bytes, kind_answer}
 use Rattle.codremif.specs.Demand2.{Demand2}
 use Rattle.codremif.specs.PowerUp.{MeetsAtStart, system_by_init, starts_written_in, SameAnswers, PowerUp}
 use Rattle.codremif.specs.Laws.Demand2.{judging_meets_demand2}
@@ -86,7 +86,7 @@ module _ (text first : List ℕ) (outcome : text_outcome text ≡ text_outcome f
     asked_same : (S : ℕ) {new new₁ : List ℕ} → new ≡ new₁ → (lent : List ℕ) → asked_outcome text S new lent ≡ asked_outcome first S new₁ lent
     unfolding asked_outcome set_outcome
     asked_same S p lent =
-        ap₂ ◌orElse◌ outcome (ap₂ (λ R new. refused_if (leb (2 ^ R) S) 10 or_else length_outcome new lent) rules p)
+        ap₂ ◌or_else◌ outcome (ap₂ (λ R new. refused_if (leb (2 ^ R) S) 10 or_else length_outcome new lent) rules p)
 
     judge_same : (S : ℕ) (lent : List ℕ) → judge_outcome text S lent ≡ judge_outcome first S lent
     unfolding judge_outcome
@@ -98,16 +98,16 @@ module _ (text first : List ℕ) (outcome : text_outcome text ≡ text_outcome f
 
     listing_same : (which : WhichList) (lent : List ℕ) → list_outcome which text lent ≡ list_outcome which first lent
     unfolding list_outcome
-    listing_same which lent = ap₂ ◌orElse◌ outcome (ap (λ l. length_outcome (bytes_of l) lent) (list_same which))
+    listing_same which lent = ap₂ ◌or_else◌ outcome (ap (λ l. length_outcome (bytes_of l) lent) (list_same which))
 
     order_same : (order : List ℕ) → one_core_outcome text order ≡ one_core_outcome first order
     unfolding one_core_outcome order_outcome
-    order_same order = ap₂ ◌orElse◌ outcome (ap (λ R. refused_if (not (is_order R order)) 13) rules)
+    order_same order = ap₂ ◌or_else◌ outcome (ap (λ R. refused_if (not (is_order R order)) 13) rules)
 
     log_same : (log : List ℕ) → blame_outcome text log ≡ blame_outcome first log
     unfolding blame_outcome log_outcome init_outcome
     log_same log =
-        ap₂ ◌orElse◌ outcome (ap₂ (λ n met. refused_if (not (is_log n log)) 14 or_else refused_if (not met) 15) states_same (init (get_or log 0 0)))
+        ap₂ ◌or_else◌ outcome (ap₂ (λ n met. refused_if (not (is_log n log)) 14 or_else refused_if (not met) 15) states_same (init (get_or log 0 0)))
 
     same_answers : SameAnswers text first
     unfolding judge_answer judge_bytes reached_answer reached_bytes list_answer list_bytes kind_answer one_core_answer blame_answer

@@ -8,27 +8,26 @@ use Rattle.sets.specs.Lists.{bytes_of}
 use Rattle.sets.specs.Joint.{Each, joint}
 use Rattle.sets.specs.Laws.Choice.{alike}
 use Rattle.sets.specs.Laws.Growth.{cores_of_agree}
-use Rattle.sets.specs.Laws.Joint.{joint_tabulate, joint_cores}
+use Rattle.sets.proofs.Laws.Joint.{joint_tabulate, joint_cores}
 use Rattle.sets.specs.Laws.Tabulated.{each_tabulate}
 use Rattle.models.specs.declared.model.Outcome.TheVariants.{Accepted}
 use Rattle.models.specs.Written.{Legal, model_in}
-use Rattle.models.specs.Accepted.{told_back}
+use Rattle.models.proofs.Accepted.{told_back}
 use Rattle.models.specs.Changed.{by_property}
-use Rattle.models.specs.Laws.Changed.{by_property_legal}
+use Rattle.models.proofs.Laws.Changed.{by_property_legal}
 use Rattle.systems.specs.System.{Trace}
 use Rattle.systems.specs.Verdict.{holds, trace_of}
 use Rattle.systems.specs.Judged.{judged}
 use Rattle.systems.specs.Laws.Holds.{breach_broken}
 use Rattle.systems.specs.Properties.{FirstOfTraces, JointlyJudged}
 use Rattle.semantics.specs.Meaning.{system_of, judge}
-use Rattle.semantics.specs.Laws.Properties.{judged_jointly}
+use Rattle.semantics.proofs.Laws.Properties.{judged_jointly}
 use Rattle.sorting.specs.declared.which.WhichList.TheVariants.{Cores}
 use Rattle.sorting.specs.Which.{listed}
 use Rattle.calls.specs.declared.answers.JudgeAnswer.TheVariants.{Broken}
 use Rattle.calls.specs.Answers.{rules_in, system_in, judge_in, list_in, text_outcome, judge_answer, judge_bytes}
-use Rattle.calls.specs.Laws.Answers.{judge_enough, verdict_broken}
-use Rattle.calls.specs.Laws.Sizes.{trace_le}
-use Rattle.packing.specs.Packing.{accepted}
+use Rattle.calls.proofs.Laws.Answers.{judge_enough, verdict_broken}
+use Rattle.calls.proofs.Laws.Sizes.{trace_le}
 use Rattle.codremif.specs.Suffices.{TextTelling, text_by_answers, text_by_hosts}
 use Rattle.codremif.specs.Properties.{properties_in, text_by, judgements_by, FirstShown, JointList, SeveralProperties}
 use Rattle.codremif.specs.Laws.Written.{written_accepted, written_rules, written_system, written_judge, told_legal}
@@ -71,9 +70,9 @@ module _ (text : List ℕ) (model : text_outcome text ≡ Accepted) where
   unfolding text_by rules_in by_property
   rules_by j h = written_rules (by_property j (model_in text)) (legal_by j h)
 
-  system_by : (j : ℕ) → j < properties_in text → (S : ℕ) → system_in (text_by j text) S ≡ system_of (by_property j (model_in text)) S
+  system_by_lem : (j : ℕ) → j < properties_in text → (S : ℕ) → system_in (text_by j text) S ≡ system_of (by_property j (model_in text)) S
   unfolding text_by
-  system_by j h = written_system (by_property j (model_in text)) (legal_by j h)
+  system_by_lem j h = written_system (by_property j (model_in text)) (legal_by j h)
 
   -- The sets are judged jointly.
   jointly : (S : ℕ) → JointlyJudged (system_in text S) (properties_in text) (λ j. system_of (by_property j (model_in text)) S)
@@ -117,18 +116,18 @@ module _ (text : List ℕ) (model : text_outcome text ≡ Accepted) where
         → judge_answer (text_by j text) S lent ≡ Broken (length (trace_of (system_of (by_property j (model_in text)) S)))
     broken_by e lent b =
         (judge_enough (text_by j text) (accepted_by j h) S lent set_by (omega (arith, trace_le (text_by j text) S))).says
-        ∙ rw (system_by j h S) (verdict_broken (system_of (by_property j (model_in text)) S) e)
+        ∙ rw (system_by_lem j h S) (verdict_broken (system_of (by_property j (model_in text)) S) e)
 
     -- What is shown by a property is the trace by it.
     module _ (lent : List ℕ) (n : ℕ) (e : judge_answer (text_by j text) S lent ≡ Broken n) where
       is_by : take n (judge_bytes (text_by j text) S lent) ≡ trace_of (system_of (by_property j (model_in text)) S)
-      is_by = shown_is (text_by j text) (accepted_by j h) S set_by lent n e ∙ ap trace_of (system_by j h S)
+      is_by = shown_is (text_by j text) (accepted_by j h) S set_by lent n e ∙ ap trace_of (system_by_lem j h S)
 
       length_by : length (trace_of (system_of (by_property j (model_in text)) S)) ≡ n
-      length_by = sym (ap (λ N. length (trace_of N)) (system_by j h S)) ∙ shown_length (text_by j text) (accepted_by j h) S set_by lent n e
+      length_by = sym (ap (λ N. length (trace_of N)) (system_by_lem j h S)) ∙ shown_length (text_by j text) (accepted_by j h) S set_by lent n e
 
       not_held_by : holds (system_of (by_property j (model_in text)) S) ≡ false
-      not_held_by = sym (ap holds (system_by j h S)) ∙ shown_broken (text_by j text) (accepted_by j h) S set_by lent n e
+      not_held_by = sym (ap holds (system_by_lem j h S)) ∙ shown_broken (text_by j text) (accepted_by j h) S set_by lent n e
 
   module _ {J L M : Type 0} (w : TextTelling J L M) (t : Tells w) (S : ℕ) (set : S < 2 ^ rules_in text) (lent : List ℕ) (n : ℕ) (few : n ≤ 128) (e : judge_answer text S lent ≡ Broken n) where
     first_of : FirstOfTraces (properties_in text) (λ j. system_of (by_property j (model_in text)) S) (trace_of (system_in text S))

@@ -1,5 +1,5 @@
 -- What `Reached` says is true of every accepted text. From the laws of the answers, and from what is proved of the search of any system
--- (`Rattle.searches.specs.Laws.Collecting`). Assumes nothing.
+-- (`Rattle.searches.proofs.Laws.Collecting`). Assumes nothing.
 use Rattle.std.specs.Prelude.{ℕ, ◌*◌, ◌^◌, ◌≤◌, ◌<◌, ◌≡◌, ◌⊎◌, Bool, true, false, List}
 use Rattle.std.proofs.Math.Path.{refl, ap}
 use Rattle.std.proofs.Common.{sym, ◌∙◌, inl, inr, arith}
@@ -15,12 +15,12 @@ use Rattle.systems.specs.System.{System}
 use Rattle.traces.specs.Marked.{is_marked}
 use Rattle.searches.specs.Search.{search}
 use Rattle.searches.specs.Collecting.{Collecting}
-use Rattle.searches.specs.Laws.Collecting.{collecting, same_marks}
+use Rattle.searches.proofs.Laws.Collecting.{collecting, same_marks}
 use Rattle.semantics.specs.Meaning.{system_of}
-use Rattle.semantics.specs.Laws.Meaning.{step_zero}
+use Rattle.semantics.proofs.Laws.Meaning.{step_zero}
 use Rattle.calls.specs.declared.answers.ReachedAnswer.TheVariants.{Pairs}
 use Rattle.calls.specs.Answers.{Gives, rules_in, states_in, system_in, marks_in, pairs_in, text_outcome, reached_answer, reached_bytes}
-use Rattle.calls.specs.Laws.Answers.{reached_enough, length_marks}
+use Rattle.calls.proofs.Laws.Answers.{reached_enough, length_marks}
 use Rattle.packing.specs.Packing.{accepted, reached_parts, packed}
 use Rattle.codremif.specs.Reached.{ReachedStates, EverythingReached}
 

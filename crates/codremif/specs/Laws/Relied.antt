@@ -5,7 +5,7 @@ use Prim.Native.Nat.{ℕ, ◌^◌, ◌<◌}
 use Rattle.std.specs.Prelude.{◌≡◌, ◌↔◌, false}
 use Rattle.std.proofs.Math.Path.{sym, ap}
 use Rattle.std.proofs.Common.{ap₂, ◌∙◌, subst, arith, pow_pos}
-use Rattle.std.proofs.Math.Logic.{Iff·trans}
+use Rattle.std.proofs.Math.Logic.Iff
 use Rattle.std.proofs.Math.Bool.{Bool, true, true≢false}
 use mathlib.Core.List.{List, map, map-map}
 use Rattle.std.proofs.Math.Option.{Option}
@@ -19,20 +19,20 @@ use Rattle.sets.specs.Lists.{cores_of, must_of}
 use Rattle.sets.specs.Laws.Listed.{cores_of_lists, cuts_of_lists}
 use Rattle.sets.specs.Laws.Cores.{false_if}
 use Rattle.sets.specs.Kinds.{InSome, some_of, may_of, irrelevant_of}
-use Rattle.sets.specs.Laws.Kinds.{some_iff, some_below, full_less_some, has_may, irrelevant_iff, irrelevant_by_cuts, kinds_sorted, no_core_irrelevant, no_core_may}
+use Rattle.sets.proofs.Laws.Kinds.{some_iff, some_below, full_less_some, has_may, irrelevant_iff, irrelevant_by_cuts, kinds_sorted, no_core_irrelevant, no_core_may}
 use Rattle.sets.specs.Kept.{kept}
 use Rattle.sets.specs.Renumbered.{spread, renumbered}
 use Rattle.sets.specs.Laws.Kept.{map_kept, kept_kept, old_onto}
-use Rattle.sets.specs.Laws.Renumbered.{Reduced, relevant_reduced, none_irrelevant}
+use Rattle.sets.proofs.Laws.Renumbered.{Reduced, relevant_reduced, none_irrelevant}
 use Rattle.exprs.specs.Expr.{Expr}
 use Rattle.lines.specs.Written.{Rule, LegalExpr, LegalStart}
 use Rattle.models.specs.declared.model.Outcome.TheVariants.{Accepted}
 use Rattle.models.specs.Written.{Described, Legal, names_of, written_model, model_in}
-use Rattle.models.specs.Accepted.{told_back}
+use Rattle.models.proofs.Accepted.{told_back}
 use Rattle.models.specs.Changed.{keeping, replacing}
-use Rattle.models.specs.Laws.Changed.{length_keeping, keeping_legal, length_replacing, replacing_legal}
+use Rattle.models.proofs.Laws.Changed.{length_keeping, keeping_legal, length_replacing, replacing_legal}
 use Rattle.semantics.specs.Meaning.{judge}
-use Rattle.semantics.specs.Laws.Changed.{judge_keeping, replacing_holds}
+use Rattle.semantics.proofs.Laws.Changed.{judge_keeping, replacing_holds}
 use Rattle.sorting.specs.declared.which.WhichList.{WhichList}
 use Rattle.sorting.specs.declared.which.WhichList.TheVariants.{Cores, Cuts}
 use Rattle.sorting.specs.Which.{listed, of_kind}
@@ -41,7 +41,7 @@ use Rattle.calls.specs.declared.answers.JudgeAnswer.TheVariants.{Holds}
 use Rattle.calls.specs.Answers.{rules_in, judge_in, list_in, kind_in, text_outcome, judge_answer}
 use Rattle.packing.specs.Packing.{accepted, set_parts, packed}
 use Rattle.codremif.specs.Relied.{InOneOf, SortedRules, names_in, relevant_in, relevant_model, SameByName, Reducible, Replaceable, Relied}
-use Rattle.calls.specs.Laws.Answers.{kind_given}
+use Rattle.calls.proofs.Laws.Answers.{kind_given}
 use Rattle.codremif.specs.Laws.Written.{written_accepted, written_rules, written_judge, told_legal}
 use Rattle.codremif.specs.Laws.Demand3.{monotone_in, by_call}
 
@@ -116,7 +116,7 @@ reducible text model i m =
     let U : ℕ = relevant_in text in
     let is : U ≡ some_of R h = relevant_some text in
     let small : U < 2 ^ R = rw is (some_below R h) in
-    let left : (i : ℕ) → (has U i ≡ true) ↔ InOneOf (cores_of R h) i = rw is (λ i. Iff·trans (some_iff R h i) (in_listed (cores_of_lists R h) i)) in
+    let left : (i : ℕ) → (has U i ≡ true) ↔ InOneOf (cores_of R h) i = rw is (λ i. Iff.trans (some_iff R h i) (in_listed (cores_of_lists R h) i)) in
     let some : 0 < ones U = omega (arith, (old_onto R U i small ((left i).1 m)).1) in
     let legal : Legal (keeping U (model_in text)) = less_legal text model U small some in
     record {

@@ -9,7 +9,6 @@ use Rattle.std.proofs.Math.Seq.{take_at}
 use Rattle.sets.specs.Lists.{bytes_of, overwritten}
 use Rattle.sets.specs.Laws.Lists.{length_bytes_of}
 use Rattle.models.specs.declared.model.Outcome.TheVariants.{Accepted}
-use Rattle.systems.specs.Verdict.{holds}
 use Rattle.semantics.specs.Meaning.{judge}
 use Rattle.sorting.specs.declared.which.WhichList.{WhichList}
 use Rattle.sorting.specs.declared.which.WhichList.TheVariants.{Cores, Cuts}
@@ -23,8 +22,8 @@ use Rattle.calls.specs.Answers.{rules_in, system_in, judge_in, trace_in, list_in
 use Rattle.packing.specs.Packing.{InRange, accepted, refused, judge_parts, suffices_parts, witness_place, packed}
 use Rattle.codremif.specs.Demand3.{in_rattle, for_hosts, GivesList}
 use Rattle.codremif.specs.Suffices.{host_said, by_hosts, bytes_at, Witnessed, TextTelling, text_by_answers, text_by_hosts, WroteList, Agrees, QuickAnswer}
-use Rattle.calls.specs.Laws.Answers.{rules_most, judge_enough, verdict_broken}
-use Rattle.calls.specs.Laws.Sizes.{trace_le}
+use Rattle.calls.proofs.Laws.Answers.{rules_most, judge_enough, verdict_broken}
+use Rattle.calls.proofs.Laws.Sizes.{trace_le}
 use Rattle.codremif.specs.Laws.Demand3.{monotone_in, by_call, list_given, list_packed}
 
 -- ---- any two lists
@@ -51,9 +50,9 @@ module _ (S : ℕ) (cores cuts : List ℕ) where
   host_ways (apart_way v n p s e) = apart_way v n p s (ap host_said e)
   host_ways (unlisted_way v n m e) = unlisted_way v n m (ap host_said e)
 
-  host_said : SaidOf by_hosts S cores cuts (host_said (suffices_answer S cores cuts))
+  host_said_lem : SaidOf by_hosts S cores cuts (host_said (suffices_answer S cores cuts))
   unfolding by_hosts
-  host_said = said_of {code = λ x. x.suffices} {place = λ x. x.witness}
+  host_said_lem = said_of {code = λ x. x.suffices} {place = λ x. x.witness}
       (record { odd = refl; inside = λ p. refl; apart = λ p. refl; unlisted = refl; inside_at = λ p. refl; apart_at = λ p. refl })
       (host_ways (ways S cores cuts))
 
@@ -174,7 +173,7 @@ module _ (text : List ℕ) (model : text_outcome text ≡ Accepted) where
     unfolding text_by_hosts for_hosts by_hosts packed judge_parts accepted
     hosts_agree cores cuts a b =
         rw (host_wrote Cores cores a, host_wrote Cuts cuts b)
-        (let said = host_said S (bytes_of (list_in Cores text)) (bytes_of (list_in Cuts text)) in
+        (let said = host_said_lem S (bytes_of (list_in Cores text)) (bytes_of (list_in Cuts text)) in
         agreed text_by_hosts by_hosts text S _
         (λ n l e. omega arith)
         (λ p q e. omega (arith, ap (λ x. x.suffices) e))
@@ -190,7 +189,7 @@ module _ (text : List ℕ) (model : text_outcome text ≡ Accepted) where
 pub the_quick_answer : QuickAnswer
 the_quick_answer = record {
   said = answer_said;
-  said_to_hosts = host_said;
+  said_to_hosts = host_said_lem;
   witnessed = the_witness;
   agrees = calls_agree;
   agrees_for_hosts = hosts_agree;

@@ -8,7 +8,7 @@ use Rattle.sorting.specs.declared.which.WhichList.{WhichList}
 use Rattle.calls.specs.declared.answers.JudgeAnswer.{JudgeAnswer}
 use Rattle.calls.specs.declared.answers.JudgeAnswer.TheVariants.{Refused as JudgeRefused, Holds, Broken}
 use Rattle.calls.specs.Answers.{system_in, judge_in, list_in, text_outcome, verdict_of, judge_answer}
-use Rattle.calls.specs.Laws.Answers.{given_accepted, not_refused}
+use Rattle.calls.proofs.Laws.Answers.{given_accepted, not_refused}
 use Rattle.packing.specs.Packing.{accepted, refused, judge_parts, packed}
 use Rattle.codremif.specs.Demand3.{in_rattle, for_hosts, Judges}
 use Rattle.codremif.specs.Suffices.{TextTelling, text_by_answers, text_by_hosts, WroteList}

@@ -1,11 +1,11 @@
 -- The written form of a legal model, as a text for the calls: it is accepted, and has the rules, the runs and the verdicts of the model.
--- From the reading being right (`Rattle.models.specs.Accepted`).
+-- From the reading being right (`Rattle.models.proofs.Accepted`).
 use Rattle.std.specs.Prelude.{ℕ, ◌≡◌, refl, List}
 use Rattle.std.proofs.Math.Path.{ap}
 use Rattle.std.proofs.Math.ListN.{length}
 use Rattle.models.specs.declared.model.Outcome.TheVariants.{Accepted}
 use Rattle.models.specs.Written.{Described, Legal, written_model, model_in}
-use Rattle.models.specs.Accepted.{accepts_what_is_written, told, told_back}
+use Rattle.models.proofs.Accepted.{accepts_what_is_written, told, told_back}
 use Rattle.semantics.specs.Meaning.{system_of, judge}
 use Rattle.calls.specs.Answers.{rules_in, system_in, judge_in, text_outcome}
 

@@ -13,7 +13,7 @@ use Rattle.sets.specs.Lists.{bytes_of, cores_of, cuts_of}
 use Rattle.sets.specs.Laws.Lists.{length_bytes_of}
 use Rattle.sets.specs.Demand3.{◌∈◌}
 use Rattle.sets.specs.Laws.Listed.{cores_of_lists, cuts_of_lists}
-use Rattle.sets.specs.Laws.Duality.{duality}
+use Rattle.sets.proofs.Laws.Duality.{duality}
 use Rattle.lookup.specs.declared.search.Found.{Found}
 use Rattle.lookup.specs.declared.search.Found.TheVariants.{At, Nowhere}
 use Rattle.lookup.specs.Search.{first_in, set_at_byte, Stands, StandsFirst, NoneStands}
@@ -30,6 +30,7 @@ two_bytes S l h = omega arith
 module _ (P : ℕ → Type 0) where
   pub stands : (l : List ℕ) → ((C : ℕ) → C ∈ l → C < 65536) → (C : ℕ) → C ∈ l → P C → (place : ℕ) × Stands P (bytes_of l) place
   unfolding bytes_of
+  stands [] small C m p = elim m [ ]
   stands (S ∷ l) small C (Memᴰ.head e) p =
       (0, record { even = refl; within = omega (arith, length_bytes_of (S ∷ l)); itself = rw (two_bytes S l (small S (Memᴰ.head refl)), sym e) p })
   stands (S ∷ l) small C (Memᴰ.tail m) p =

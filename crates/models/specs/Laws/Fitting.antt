@@ -16,13 +16,13 @@ use Rattle.rule_lines.specs.declared.names.RuleParts.{RuleParts}
 use Rattle.lines.specs.Bytes.{belongs, prefix}
 use Rattle.lines.specs.Decimal.{decimal}
 use Rattle.lines.specs.Lines.{rule_key, line_length, is_line, value_of, says, unless_fault, count_in, counted, count_line, all, state_line}
-use Rattle.rule_lines.specs.RuleLines.{is_named, step_length, parts_fault, parts_at, rule_line}
+use Rattle.rule_lines.specs.RuleLines.{is_named, parts_at, rule_line}
 use Rattle.lines.specs.Written.{Within, line}
 use Rattle.lines.specs.Laws.Bytes.{all_append, prefix_seam, all_prefix}
 use Rattle.lines.specs.Laws.Decimal.{decimal_apart}
-use Rattle.rule_lines.specs.Laws.Numbers.{by_rule}
-use Rattle.lines.specs.Laws.Lines.{line_append, line_there, line_back, count_there, count_back}
-use Rattle.rule_lines.specs.Laws.RuleLines.{named_there, named_back, rule_key_in_line}
+use Rattle.rule_lines.proofs.Laws.Numbers.{by_rule}
+use Rattle.lines.proofs.Laws.Lines.{line_append, line_there, line_back, count_there, count_back}
+use Rattle.rule_lines.proofs.Laws.RuleLines.{named_there, named_back, rule_key_in_line}
 use Rattle.models.specs.Refusals.{after_lines, LineAt, HasValue, CountLine, vars_line, rules_line, first_rule_line, StateLine, init_line, prop_line, GivesCount, IsN, IsR, IsRuleLine, count_due, state_due, rule_due, ProperName, HasName, Expression, of_state, of_step, of_start, FitsAt, line_missing, count_wrong, name_improper, name_taken, length_wrong, byte_other, letter_beyond, letter_capital, not_one, bytes_follow}
 use Rattle.models.specs.Laws.Grounds.{unbroken_in_line, in_line_unbroken, Unfit, unfit_length, unfit_byte, unfit_letter, unfit_capital, unfit_form, unfit_late, Tried, tried_none, tried_some, expression_tried}
 use Rattle.models.specs.Laws.Parts.{UnfitParts, unfit_step, unfit_start, parts_late, parts_tried}
@@ -234,8 +234,8 @@ module _ (text : List ℕ) (k : ℕ) (s : List ℕ) (begins : after_lines (k - 1
       let b = count_back most (value_of key s) n q in
       record { value = subst (HasValue text k key) b.1 (has_value key in-line l); range = record { at_least = omega arith; at_most = b.0 } }
 
-  pub name_found : IsRuleLine text k → is_line rule_key s ≡ true → is_named (value_of rule_key s) ≡ true → HasName text k (name_found s) (parts_found s)
-  name_found c l h = record {
+  pub name_found_lem : IsRuleLine text k → is_line rule_key s ≡ true → is_named (value_of rule_key s) ≡ true → HasName text k (name_found s) (parts_found s)
+  name_found_lem c l h = record {
     rule = c;
     proper = name_there (value_of rule_key s) h;
     value = subst (HasValue text k rule_key) (named_back (value_of rule_key s) h).text (has_value rule_key rule_key_in_line l);
@@ -317,7 +317,7 @@ module _ (text : List ℕ) (k : ℕ) (s : List ℕ) (begins : after_lines (k - 1
               (sym (the_value rule_key rule_key_in_line q).1 ∙ (named_back (value_of rule_key s) (three h)).text)
           go (rule_4 {j} {d = d} l a b) h =
               tells.free_there (name_found s) (four h) j d l
-              (subst (λ x. HasName text j x d) (one_name b (name_found c (one (omega arith)) (three (omega arith)))) a)
+              (subst (λ x. HasName text j x d) (one_name b (name_found_lem c (one (omega arith)) (three (omega arith)))) a)
           go (rule_5 {m = m} a u) h = fit m h (subst (λ e. UnfitParts text e m) (sym (the_parts a)) u)
 
       pub rule_judged : (at : ℕ) → RuleJudged text k s (rule_line n taken at s)
@@ -332,11 +332,11 @@ module _ (text : List ℕ) (k : ℕ) (s : List ℕ) (begins : after_lines (k - 1
           (past_rule 3 (λ _. l) (λ k. absurd (omega arith)) (λ k. absurd (omega arith)) (λ m k u. parts_late (omega arith) u k)) (omega arith))
           (λ l h t.
           let w = tells.taken_there (name_found s) t in
-          rule_refused (name_taken w.1 w.2.1 (name_found c l h)) (past_rule 4 (λ _. l) (λ _. h) (λ k. absurd (omega arith)) (λ m k u. parts_late (omega arith) u k)) (omega arith))
+          rule_refused (name_taken w.1 w.2.1 (name_found_lem c l h)) (past_rule 4 (λ _. l) (λ _. h) (λ k. absurd (omega arith)) (λ m k u. parts_late (omega arith) u k)) (omega arith))
           (λ l h t. go l h t (parts_tried text n isN (λ m q. one_count q isN) (parts_found s)))
         where
           go : is_line rule_key s ≡ true → is_named (value_of rule_key s) ≡ true → taken (name_found s) ≡ false → {number : ℕ} → Tried (UnfitParts text (parts_found s)) number
               → RuleJudged text k s (unless_fault RuleFault number (RuleRead (parts_at at (prefix InName (value_of rule_key s)) (parts_found s)) (line_length s + 1)))
           go l h t (tried_none f) = rule_passed (λ m. past_rule (suc m) (λ _. l) (λ _. h) (λ _. t) (λ j _. f j) m (omega arith))
           go l h t (tried_some {number} u f) =
-              rule_refused (parts_fit (name_found c l h) u) (past_rule (suc number) (λ _. l) (λ _. h) (λ _. t) f) (omega arith)
+              rule_refused (parts_fit (name_found_lem c l h) u) (past_rule (suc number) (λ _. l) (λ _. h) (λ _. t) f) (omega arith)

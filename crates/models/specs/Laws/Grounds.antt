@@ -19,8 +19,8 @@ use Rattle.lines.specs.Bytes.{bytes, is_token, allowed, belongs, prefix}
 use Rattle.lines.specs.Lines.{all, is_one, fault_of}
 use Rattle.lines.specs.Written.{Within}
 use Rattle.lines.specs.Laws.Bytes.{all_nil, all_parts, all_more}
-use Rattle.lines.specs.Laws.Numbers.{by_expression}
-use Rattle.lines.specs.Laws.Expressions.{one_there, one_back}
+use Rattle.lines.proofs.Laws.Numbers.{by_expression}
+use Rattle.lines.proofs.Laws.Expressions.{one_there, one_back}
 use Rattle.models.specs.Refusals.{IsN, small_letters, capital_letters, expression_bytes}
 
 -- ---- members of a list
@@ -231,13 +231,13 @@ module _ (text : List ℕ) (n : ℕ) (isN : IsN text n) (one-N : (m : ℕ) → I
   -- numbers whose tests the expression has passed do not fit
   past : (number : ℕ) → (5 < number → Within 1 64 (length e)) → (6 < number → all InExpression e ≡ true)
       → (7 < number → all (Allowed n capitals) e ≡ true) → (8 < number → is_one e ≡ true) → (m : ℕ) → m < number → ¬ Unfit text capitals e m
-  past number five six seven eight m h (unfit_length f) = f (five h)
-  past number five six seven eight m h (unfit_byte {b} i f) = f (is_listed b (all_each InExpression (six h) i))
-  past number five six seven eight m h (unfit_letter {b} {n = n'} q i l) =
-      false≢true (sym (beyond n capitals (subst (λ k. Memᴰ b (drop k small_letters ++ drop k capital_letters)) (one-N n' q) l)) ∙ all_each (Allowed n capitals) (seven h) i)
-  past number five six seven eight m h (unfit_capital {b} c i l) =
-      false≢true (sym (ap (λ x. belongs (Allowed n x) b) c ∙ capital_there n l) ∙ all_each (Allowed n capitals) (seven h) i)
-  past number five six seven eight m h (unfit_form f) = let o = one_back e (eight h) in f o.0 o.1 o.2
+  past number past5 past6 past7 past8 m h (unfit_length f) = f (past5 h)
+  past number past5 past6 past7 past8 m h (unfit_byte {b} i f) = f (is_listed b (all_each InExpression (past6 h) i))
+  past number past5 past6 past7 past8 m h (unfit_letter {b} {n = n'} q i l) =
+      false≢true (sym (beyond n capitals (subst (λ k. Memᴰ b (drop k small_letters ++ drop k capital_letters)) (one-N n' q) l)) ∙ all_each (Allowed n capitals) (past7 h) i)
+  past number past5 past6 past7 past8 m h (unfit_capital {b} c i l) =
+      false≢true (sym (ap (λ x. belongs (Allowed n x) b) c ∙ capital_there n l) ∙ all_each (Allowed n capitals) (past7 h) i)
+  past number past5 past6 past7 past8 m h (unfit_form f) = let o = one_back e (past8 h) in f o.0 o.1 o.2
 
   -- the reader's number is the first that fits
   pub expression_tried : Tried (Unfit text capitals e) (fault_of n capitals e)

@@ -19,11 +19,11 @@ use Rattle.slices.specs.Same.{same}
 use Rattle.lines.specs.Lines.{vars_key, rules_key, init_key, prop_key, rule_key, is_line, value_of, count_in, all, is_one, fault_of}
 use Rattle.rule_lines.specs.RuleLines.{is_named, step_length}
 use Rattle.slices.specs.Laws.Same.{same_is}
-use Rattle.rule_lines.specs.Laws.RuleLines.{rule_key_in_line}
+use Rattle.rule_lines.proofs.Laws.RuleLines.{rule_key_in_line}
 use Rattle.models.specs.Refusals.{after_lines, CountLine, vars_line, rules_line, first_rule_line, StateLine, init_line, prop_line, GivesCount, IsN, IsR, IsRuleLine, count_due, state_due, rule_due, HasName, Expression, of_state, of_step, of_start, FitsAt, line_missing, name_taken, bytes_follow}
 use Rattle.models.specs.Laws.Grounds.{length_fails, byte_fails, letter_fails, form_fails}
-use Rattle.models.specs.Laws.Parts.{step_found, has_start, start_found, both_found, step_found, passed_there}
-use Rattle.models.specs.Laws.Fitting.{unfit_fits, count_key_lem, state_key, name_found, parts_found, has_value, no_value, gives_there, count_fails, name_found, name_fails}
+use Rattle.models.specs.Laws.Parts.{step_found, has_start, start_found, both_found, step_found_lem, passed_there}
+use Rattle.models.specs.Laws.Fitting.{unfit_fits, count_key_lem, state_key, name_found, parts_found, has_value, no_value, gives_there, count_fails, name_found_lem, name_fails}
 
 -- ---- lists of numbers
 
@@ -132,10 +132,10 @@ abbrev NamedAmong : List ℕ → List ℕ → ℕ → Type 0
 NamedAmong text name i = (j : ℕ) × (j < i) × ((e : List ℕ) × HasName text (first_rule_line text + j) name e)
 
 module _ (text : List ℕ) (r : ℕ) (isR : IsR text r) (name : List ℕ) where
-  name_among : (i : ℕ) → i ≤ r → name_among text (first_rule_line text) i name ≡ true → NamedAmong text name i
+  name_among_lem : (i : ℕ) → i ≤ r → name_among text (first_rule_line text) i name ≡ true → NamedAmong text name i
   unfolding name_among
-  name_among zero b t = absurd (false≢true t)
-  name_among (suc j) b t = go (name_among text (first_rule_line text) j name) (name_among j (omega arith)) t
+  name_among_lem zero b t = absurd (false≢true t)
+  name_among_lem (suc j) b t = go (name_among text (first_rule_line text) j name) (name_among_lem j (omega arith)) t
     where
       k : ℕ
       k = first_rule_line text + j
@@ -152,7 +152,7 @@ module _ (text : List ℕ) (r : ℕ) (isR : IsR text r) (name : List ℕ) where
           let l = (and-eq-true_iff (is_line rule_key s) (is_named (value_of rule_key s) && same (name_found s) name)).0 t in
           let n = (and-eq-true_iff (is_named (value_of rule_key s)) (same (name_found s) name)).0 l.1 in
           let rule : IsRuleLine text k = record { R = r; count = isR; least = omega arith; most = omega arith } in
-          (j, omega arith, (parts_found s, subst (λ x. HasName text k x (parts_found s)) (same_is (name_found s) name n.1) (name_found text k s refl rule l.0 n.0)))
+          (j, omega arith, (parts_found s, subst (λ x. HasName text k x (parts_found s)) (same_is (name_found s) name n.1) (name_found_lem text k s refl rule l.0 n.0)))
 
 -- the number fits at line k
 abbrev At : List ℕ → ℕ → ℕ → Type 0
@@ -186,7 +186,7 @@ module _ (text : List ℕ) (k : ℕ) (s : List ℕ) (begins : after_lines (k - 1
     each_part : {name : List ℕ} (e : List ℕ) → HasName text k name e → Each (At text k) (part_numbers n e)
     unfolding part_numbers
     each_part e a =
-        each_joined (At text k) (expression_numbers n true (step_found e)) _ (each_expression true (step_found e) (of_step a (step_found e).1))
+        each_joined (At text k) (expression_numbers n true (step_found e)) _ (each_expression true (step_found e) (of_step a (step_found_lem e).1))
         (by_test (Each (At text k)) (has_start e && eqb (fault_of n true (step_found e)) 0)
         (λ h.
         let b = (and-eq-true_iff (has_start e) (eqb (fault_of n true (step_found e)) 0)).0 h in
@@ -200,9 +200,9 @@ module _ (text : List ℕ) (k : ℕ) (s : List ℕ) (begins : after_lines (k - 1
         by_test (Each (At text k)) (is_named (value_of rule_key s)) (λ h.
         each_joined (At text k) (unless (not (name_among text (first_rule_line text) i (name_found s))) 4) (part_numbers n (parts_found s))
         (each_unless (At text k) _ 4 (λ t.
-        let w = name_among text c.R c.count (name_found s) i (omega (arith, c.most)) (not-false (name_among text (first_rule_line text) i (name_found s)) t) in
-        name_taken (omega (arith, w.1)) w.2.1 (name_found text k s begins c l h)))
-        (each_part (parts_found s) (name_found text k s begins c l h)))
+        let w = name_among_lem text c.R c.count (name_found s) i (omega (arith, c.most)) (not-false (name_among text (first_rule_line text) i (name_found s)) t) in
+        name_taken (omega (arith, w.1)) w.2.1 (name_found_lem text k s begins c l h)))
+        (each_part (parts_found s) (name_found_lem text k s begins c l h)))
         (λ h. each_one (At text k) 3 (name_fails text k s begins c l h)))
         (λ f. each_one (At text k) 1 (line_missing (rule_due c) (no_value text k s begins rule_key rule_key_in_line f)))
 

@@ -13,10 +13,10 @@ use Rattle.lines.specs.Lines.{all, fault_of}
 use Rattle.rule_lines.specs.RuleLines.{step_length, parts_fault}
 use Rattle.lines.specs.Written.{LegalExpr}
 use Rattle.lines.specs.Laws.Bytes.{prefix_le, all_prefix}
-use Rattle.lines.specs.Laws.Numbers.{tested}
-use Rattle.lines.specs.Laws.Expressions.{fault_there, fault_back}
-use Rattle.rule_lines.specs.Laws.Numbers.{by_parts}
-use Rattle.rule_lines.specs.Laws.Parts.{ends_at_colon, ends_with_line, colon_behind}
+use Rattle.lines.proofs.Laws.Numbers.{tested}
+use Rattle.lines.proofs.Laws.Expressions.{fault_there, fault_back}
+use Rattle.rule_lines.proofs.Laws.Numbers.{by_parts}
+use Rattle.rule_lines.proofs.Laws.Parts.{ends_at_colon, ends_with_line, colon_behind}
 use Rattle.models.specs.Refusals.{IsN, HasParts, step_alone, step_and_start, StepPassed}
 use Rattle.models.specs.Laws.Grounds.{undivided_in_part, in_part_undivided, Unfit, unfit_late, Tried, tried_none, tried_as, untried, expression_tried}
 
@@ -48,8 +48,8 @@ module _ (e : List ℕ) where
       let whole : step_length e ≡ length e = omega (arith, prefix_le InPart e, ltb-false (step_length e) (length e) b) in
       step_alone (in_part_undivided step_found undivided) (sym (take-length e) ∙ ap (λ k. take k e) (sym whole))
 
-  pub step_found : (start : Option (List ℕ)) × HasParts e step_found start
-  step_found = tested has_start (λ b. (some start_found, both_found b)) (λ b. (none, alone_found b))
+  pub step_found_lem : (start : Option (List ℕ)) × HasParts e step_found start
+  step_found_lem = tested has_start (λ b. (some start_found, both_found b)) (λ b. (none, alone_found b))
 
 -- and it has no others
 one_step : {e step : List ℕ} {start : Option (List ℕ)} → HasParts e step start → step_found e ≡ step
@@ -109,7 +109,7 @@ module _ (text : List ℕ) (n : ℕ) (isN : IsN text n) where
     pub parts_tried : Tried (UnfitParts text e) (parts_fault n (step_length e) e)
     parts_tried =
         by_parts n (step_length e) e (Tried (UnfitParts text e))
-        (λ h. tried_as (λ m u. unfit_step (step_found e).1 u) (λ m x. by_step h x) step_tried)
+        (λ h. tried_as (λ m u. unfit_step (step_found_lem e).1 u) (λ m x. by_step h x) step_tried)
         (λ z b.
         tried_as (λ m u. unfit_start (both_found e b) (passed_there z) u) (λ m x. (by_start z x).1) (expression_tried text n isN one-N false (start_found e)))
         (λ z b. tried_none (λ m x. false≢true (sym b ∙ (by_start z x).0)))

@@ -18,9 +18,9 @@ use Rattle.lines.specs.Bytes.{belongs, prefix}
 use Rattle.lines.specs.Lines.{prop_key, rule_key, starts_with, is_line, line_length, all, state_line}
 use Rattle.lines.specs.Written.{Rule, LegalExpr, written_rule}
 use Rattle.lines.specs.Laws.Bytes.{all_append}
-use Rattle.lines.specs.Laws.Expressions.{legal_in_line}
-use Rattle.lines.specs.Laws.Heard.{Heard, fault, said, state_heard}
-use Rattle.lines.specs.Laws.Lines.{prop_reads, line_append, line_there}
+use Rattle.lines.proofs.Laws.Expressions.{legal_in_line}
+use Rattle.lines.proofs.Laws.Heard.{Heard, fault, said, state_heard}
+use Rattle.lines.proofs.Laws.Lines.{prop_reads, line_append, line_there}
 use Rattle.bodies.specs.declared.progress.LineStart.{LineStart}
 use Rattle.bodies.specs.declared.progress.Progress.{Progress}
 use Rattle.bodies.specs.Properties.{after_line, leading, property_count}

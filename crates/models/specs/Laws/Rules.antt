@@ -23,10 +23,10 @@ use Rattle.lines.specs.Lines.{rule_key}
 use Rattle.rule_lines.specs.RuleLines.{step_length, start_from, parts_at, rule_line, name_of, is_taken}
 use Rattle.lines.specs.Written.{Rule, LegalRule, written_start, written_parts, written_rule}
 use Rattle.slices.specs.Laws.Same.{same_true, same_false}
-use Rattle.rule_lines.specs.Laws.Heard.{RuleHeard, rule_fault, rule_said, rule_heard}
-use Rattle.lines.specs.Laws.Lines.{line_append}
-use Rattle.rule_lines.specs.Laws.Parts.{start_behind, parts_there}
-use Rattle.rule_lines.specs.Laws.RuleLines.{rule_reads}
+use Rattle.rule_lines.proofs.Laws.Heard.{RuleHeard, rule_fault, rule_said, rule_heard}
+use Rattle.lines.proofs.Laws.Lines.{line_append}
+use Rattle.rule_lines.proofs.Laws.Parts.{start_behind, parts_there}
+use Rattle.rule_lines.proofs.Laws.RuleLines.{rule_reads}
 use Rattle.bodies.specs.declared.progress.Progress.{Progress}
 use Rattle.bodies.specs.Body.{unless_refused, ruled, next_rule, rules_read}
 use Rattle.models.specs.Written.{rule_at}
@@ -193,7 +193,7 @@ unfolding next_rule written_parts
 upto_next text n before rs r rule rest b u h l f q =
     let taken : List ℕ → Bool = is_taken text r.names r.steps (length rs) in
     let free : taken rule.name ≡ false = not_taken text r.names r.steps rule.name (length rs) (λ j k e. f j k (sym (u.located j k).name_is ∙ e)) in
-    rw (eq-eqb r.number 0 u.number, ap (rule_line n taken r.place.at) q ∙ (rule_reads n b taken r.place.at).there rule (l, free) rest) (upto_more text before rs r rule rest u h (parts_there n b rule.step l.step rule.start l.start).start_from q)
+    rw (eq-eqb r.number 0 u.number, ap (rule_line n taken r.place.at) q ∙ (rule_reads n b taken r.place.at).there rule (l, free) rest) (upto_more text before rs r rule rest u h (parts_there n b rule.step l.step rule.start l.start).start_from_is q)
 
 -- What the reading of the first i rule lines has found.
 pub record Ruled (text : List ℕ) (n : ℕ) (before : Progress) (i : ℕ) (r : Progress) : Type 0 where

@@ -19,13 +19,13 @@ use Rattle.exprs.specs.Expr.{constant}
 use Rattle.lines.specs.Bytes.{bytes}
 use Rattle.lines.specs.Decimal.{digits_in, decimal}
 use Rattle.lines.specs.Written.{Rule, line}
-use Rattle.lines.specs.Laws.Lines.{length_line}
+use Rattle.lines.proofs.Laws.Lines.{length_line}
 use Rattle.models.specs.declared.model.Outcome.{Outcome}
 use Rattle.models.specs.declared.model.Outcome.TheVariants.{Accepted, Refused}
 use Rattle.models.specs.Written.{Described, Legal, rule_at, model_in}
-use Rattle.models.specs.Accepted.{told}
+use Rattle.models.proofs.Accepted.{told}
 use Rattle.models.specs.Changed.{by_property}
-use Rattle.models.specs.Laws.Ranges.{Refusal, ranges}
+use Rattle.models.proofs.Laws.Ranges.{Refusal, ranges}
 use Rattle.systems.specs.System.{System}
 use Rattle.systems.specs.Verdict.{holds, trace_of}
 use Rattle.systems.specs.Judged.{judged}
@@ -35,8 +35,8 @@ use Rattle.sorting.specs.declared.which.WhichList.TheVariants.{Cores, Cuts}
 use Rattle.sorting.specs.declared.kinds.Kind.TheVariants.{Must, May, Irrelevant}
 use Rattle.sorting.specs.Which.{listed, of_kind}
 use Rattle.calls.specs.Answers.{rules_in, judge_in, list_in, text_outcome}
-use Rattle.calls.specs.Laws.Answers.{vars_most}
-use Rattle.calls.specs.Laws.Sizes.{select_length, list_le}
+use Rattle.calls.proofs.Laws.Answers.{vars_most}
+use Rattle.calls.proofs.Laws.Sizes.{select_length, list_le}
 use Rattle.pages.specs.Page.{pages_from}
 use Rattle.sections.specs.Laws.Sections.{set_text_lem}
 use Rattle.pages.specs.Laws.Page.{pages_are_the_text}

@@ -2,7 +2,7 @@
 -- From the test for a part, since a proper part has a smaller number.
 use Rattle.std.specs.Prelude.{ℕ, zero, suc, ◌-◌, ◌<◌, ◌≡◌, refl, ◌↔◌, Bool, true, false, not, ◌&&◌}
 use Rattle.std.proofs.Common.{sym, ap, ◌∙◌, ⊎_elim, true≢false, arith, eq-or-lt_of_le, below_more}
-use Rattle.std.proofs.Math.Logic.{Iff·trans}
+use Rattle.std.proofs.Math.Logic.Iff
 use Rattle.std.proofs.Math.Bool.{and-eq-true_iff}
 use Rattle.std.proofs.lemmas.Bool.{not-true}
 use Rattle.sets.specs.Bit.{full}
@@ -90,4 +90,4 @@ is_core_iff h S = is_least_iff h S
 
 pub is_cut_iff : (R : ℕ) (h : ℕ → Bool) (S : ℕ) → (is_cut R h S ≡ true) ↔ Cut R h S
 unfolding is_cut is_core
-is_cut_iff R h S = Iff·trans (is_core_iff (breaks R h) S) (breaks_core R h S)
+is_cut_iff R h S = Iff.trans (is_core_iff (breaks R h) S) (breaks_core R h S)

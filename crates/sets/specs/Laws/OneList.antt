@@ -17,11 +17,14 @@ before_asym (fewer l) (as_many e m) = omega arith
 before_asym (as_many e l) (fewer m) = omega arith
 before_asym (as_many e l) (as_many f m) = omega arith
 
+-- A place in a list is one further on behind another entry.
+one_further : {S : ℕ} (T : ℕ) (l : List ℕ) → (i : ℕ) × (i < length l) × (get_or l i 0 ≡ S) → (i : ℕ) × (i < length (T ∷ l)) × (get_or (T ∷ l) i 0 ≡ S)
+one_further T l r = (suc r.0, omega (arith, r.1), r.2)
+
 -- A member stands at a place.
 place_of : {S : ℕ} (l : List ℕ) → S ∈ l → (i : ℕ) × (i < length l) × (get_or l i 0 ≡ S)
 place_of [] m = absurd (Memᴰ.not-nil m)
-place_of (T ∷ l) m =
-    ⊎_elim (λ e. (0, omega arith, sym e)) (λ k. let r = place_of l k in (suc r.0, omega (arith, r.1), r.2)) (Memᴰ.cases_cons m)
+place_of {S} (T ∷ l) m = ⊎_elim (λ e. (0, omega arith, sym e)) (λ k. one_further {S = S} T l (place_of l k)) (Memᴰ.cases_cons m)
 
 behind : {S T : ℕ} (l : List ℕ) → Ordered (S ∷ l) → T ∈ l → Before S T
 behind {S} l o m = let r = place_of l m in rw r.2 at (o 0 (suc r.0) (omega arith) (omega (arith, r.1)))

@@ -1,6 +1,6 @@
 -- The runs that the arrays of a search hold: the run at a place is the run at its parent's place and one state more, which stands there; there are as
 -- many as are counted, at most 128. From the definitions and the laws of lists and of counts. Assumes nothing.
-use Prim.Native.Nat.{ℕ, zero, suc, ◌+◌, ◌≤◌, ◌<◌}
+use Prim.Native.Nat.{ℕ, zero, suc, ◌≤◌, ◌<◌}
 use Rattle.std.specs.Prelude.{◌≡◌, true, false, ltb, length, get_or, replicate}
 use Rattle.std.proofs.Math.Path.{refl}
 use Rattle.std.proofs.Common.{sym, ap, ◌∙◌, ⊎_elim, arith, ltb-true, ltb-false}

@@ -5,22 +5,21 @@ use mathlib.Core.Path.{◌≡◌, sym, ap, ap₂, ◌∙◌}
 use mathlib.Core.Bool.{Bool, true, false, true≢false}
 use mathlib.Core.List.{List}
 use native.Mathlib.Omega.{arith}
-use borrow.Author.Tests.{not-true, not-false}
 use lib.ListN.{length, get_or}
 use lib.Pow.{pow_mono}
 use Rattle.models.specs.declared.model.Model.{Model}
 use Rattle.models.specs.Written.{described, model_in}
 use Rattle.logs.specs.declared.blame.Blamed.{Blamed}
 use Rattle.logs.specs.Log.{IsLog, is_log, blame_of}
-use Rattle.logs.specs.Laws.Log.{is_log_iff}
+use Rattle.logs.proofs.Laws.Log.{is_log_iff}
 use Rattle.semantics.specs.Meaning.{init_met, start_met, step_met, bad_of}
 use Rattle.semantics.specs.Places.{meets}
 use Rattle.calls.specs.AsRead.{IsRead}
 use Rattle.calls.specs.Answers.{states_in}
-use Rattle.calls.specs.Laws.Answers.{few, rules_read_lem, states_read, read_model}
+use Rattle.calls.proofs.Laws.Answers.{few, rules_read_lem, states_read, read_model_lem}
 use Rattle.blaming.specs.declared.answer.BlameAnswer.TheVariants.{Refused, BreachAt, NoBreach}
 use Rattle.blaming.specs.Answer.{blame_in, blamed_answer, blame_answer}
-use Rattle.blaming.specs.Laws.Answer.{breach_told, none_told, blame_by_log, blame-by-init, blame_given}
+use Rattle.blaming.proofs.Laws.Answer.{breach_told, none_told, blame_by_log, blame_by_init, blame_given}
 use Rattle.blaming.proofs.blame.blame_model.Statement.{statement}
 use Rattle.blaming.proofs.blame.blame_model.Tie as tie
 
@@ -37,13 +36,13 @@ module _ {text : List ℕ} {m : Model} (r : IsRead text m) (log : List ℕ) {n :
   module _ (t : b ≡ true) {met : Bool} (asked : met ≡ meets text m.init (get_or log 0 0) (get_or log 0 0)) where
     init_read : met ≡ init_met (model_in text) (get_or log 0 0)
     unfolding meets init_met described
-    init_read = asked ∙ ap (λ D. init_met D (get_or log 0 0)) (read_model r)
+    init_read = asked ∙ ap (λ D. init_met D (get_or log 0 0)) (read_model_lem r)
 
     its_log : IsLog (states_in text) log
     its_log = rw (states_read r) at (log_read t)
 
     init_unmet : met ≡ false → Refused 15 0 ≡ blame_answer text log
-    init_unmet f = blame-by-init text log r.outcome its_log (sym init_read ∙ f)
+    init_unmet f = blame_by_init text log r.outcome its_log (sym init_read ∙ f)
 
     -- what is said by the places of the model is what is said of the text
     module _ (f : met ≡ true) {x : Blamed} (found : x ≡ blame_of m.rules (start_met (described text m)) (step_met (described text m)) (bad_of (described text m)) log) where
@@ -51,7 +50,7 @@ module _ {text : List ℕ} {m : Model} (r : IsRead text m) (log : List ℕ) {n :
       unfolding blame_in
       given =
           ap (blamed_answer (length log))
-          (found ∙ ap₂ (λ (R : ℕ) D. blame_of R (start_met D) (step_met D) (bad_of D) log) (rules_read_lem r) (read_model r))
+          (found ∙ ap₂ (λ (R : ℕ) D. blame_of R (start_met D) (step_met D) (bad_of D) log) (rules_read_lem r) (read_model_lem r))
           ∙ blame_given text log r.outcome its_log (sym init_read ∙ f)
 
       breach : x.place < length log → BreachAt x.set x.place ≡ blame_answer text log
@@ -60,45 +59,23 @@ module _ {text : List ℕ} {m : Model} (r : IsRead text m) (log : List ℕ) {n :
       no_breach : length log ≤ x.place → NoBreach x.set x.place ≡ blame_answer text log
       no_breach h = none_told (length log) x h ∙ given
 
--- where the log is looked at, and the start; and where it has passed
-abbrev start : tie.After-is_log → tie.Start
-start c = c.before.before.before.before
-
-abbrev passed : (e : tie.Else1) → IsLog (2 ^ (start e.before).args.m.vars) (start e.before).args.log.now
-passed e =
-    let i = e.before in
-    log_read (start i).requires (start i).args.log.now i.before.state_count.ensures i.is_log.ensures (not-false _ e.if1.false)
-
--- where its first state is looked at
-abbrev looked_at : tie.After-is_met → tie.Else1
-looked_at c = c.before.before
-
 pub blame_model_spec : {M : Type 1} → statement M
 blame_model_spec =
     tie.close
     (tie.spec
-    (λ c κs. (few c.before.before.requires).vars)
-    (λ c κs. omega (arith, c.state_count.ensures, pow_mono (few c.before.before.before.requires).vars))
+    (λ c κs. (few c.requires).vars)
+    (λ c κs. omega (arith, c.state_count.ensures, pow_mono (few c.requires).vars))
     (λ c.
-    let i = c.before in
-    not_a_log (start i).requires _ i.before.state_count.ensures i.is_log.ensures (not-true _ c.if1.true))
-    (λ c. omega (arith, (passed c.before).nonempty))
-    (λ c. omega (arith, c.shared-slice-known3.given 0))
+    not_a_log c.requires _ c.state_count.ensures c.is_log.ensures (c.if-not-is_log.true))
+    (λ c. omega (arith, (log_read c.requires c.args.log.now c.state_count.ensures c.is_log.ensures c.if-not-is_log.false).nonempty))
+    (λ c. omega (arith, c.shared_slice_known-3-1.given 0))
     (λ c κs. tt)
     (λ c.
-    let e = looked_at c.before in
-    let i = e.before in
-    init_unmet (start i).pre _ i.before.state_count.ensures i.is_log.ensures (not-false _ e.if1.left) c.before.is_met.ensures (not-true _ c.if2.true))
-    (λ c κs. let e = looked_at c.before in (few (start e.before).requires, passed e))
+    init_unmet c.requires _ c.state_count.ensures c.is_log.ensures c.if-not-is_log.false c.is_met.ensures (c.if-not-is_met.true))
+    (λ c κs. (few c.requires, log_read c.requires c.args.log.now c.state_count.ensures c.is_log.ensures c.if-not-is_log.false))
     (λ c.
-    let asked = c.before.before.before in
-    let e = looked_at asked.before in
-    let i = e.before in
-    breach (start i).pre _ i.before.state_count.ensures i.is_log.ensures (not-false _ e.if1.left) asked.before.is_met.ensures (not-false _ asked.if2.false)
-    c.before.before.blame.ensures c.if3.true)
+    breach c.requires _ c.state_count.ensures c.is_log.ensures c.if-not-is_log.false c.is_met.ensures c.if-not-is_met.false
+    c.blame-blamed.ensures c.if-blamed-log.true)
     (λ c.
-    let asked = c.before.before.before in
-    let e = looked_at asked.before in
-    let i = e.before in
-    no_breach (start i).pre _ i.before.state_count.ensures i.is_log.ensures (not-false _ e.if1.left) asked.before.is_met.ensures (not-false _ asked.if2.false)
-    c.before.before.blame.ensures (omega (arith, c.if3.false))))
+    no_breach c.requires _ c.state_count.ensures c.is_log.ensures c.if-not-is_log.false c.is_met.ensures c.if-not-is_met.false
+    c.blame-blamed.ensures (omega (arith, c.if-blamed-log.false))))

@@ -11,35 +11,34 @@ use Rattle.bodies.specs.Laws.Ranges.{properties_placed}
 use Rattle.bodies.proofs.properties.property_lines.Statement.{statement}
 use Rattle.bodies.proofs.properties.property_lines.Tie as tie
 
-abbrev invariant-loop : tie.invariant-loop
-invariant-loop text vars properties r₀ j₀ r j = (j ≤ properties) × (r ≡ properties_read text vars r₀.place j)
+abbrev invariant-loop-j : tie.invariant-loop-j
+invariant-loop-j text vars properties r₀ j₀ r j = (j ≤ properties) × (r ≡ properties_read text vars r₀.place j)
 
-abbrev decreases-loop : tie.decreases-loop
-decreases-loop text vars properties r₀ j₀ r j = properties - j
+abbrev decreases-loop-j : tie.decreases-loop-j
+decreases-loop-j text vars properties r₀ j₀ r j = properties - j
 
 pub property_lines_spec : {M : Type 1} → statement M
 unfolding properties_read
 property_lines_spec =
     tie.close
     (tie.spec
-    invariant-loop
-    decreases-loop
+    invariant-loop-j
+    decreases-loop-j
     (λ c. (omega arith, refl))
     (λ c κs.
-    let l = c.before.loop in
-    let s = c.before.before.before in
-    let a = s.args in
+    let l = c.loop-j in
+    let a = c.args in
     record {
-      part = omega (arith, s.requires.few);
-      place = subst (λ (r : Progress). Placed a.text.now r.place) (sym l.invariant.1) (properties_placed a.text.now a.vars a.place s.requires.place l.j);
+      part = omega (arith, c.requires.few);
+      place = subst (λ (r : Progress). Placed a.text.now r.place) (sym l.invariant.1) (properties_placed a.text.now a.vars a.place c.requires.place l.j);
     })
     (λ c. omega arith)
     (λ c. omega arith)
     (λ c.
-    let a = c.before.before.before.before.args in
-    let l = c.before.before.loop in
-    (omega arith, c.next_property.ensures ∙ ap (next_property a.text.now a.vars l.j) l.invariant.1 ∙ ap (properties_read a.text.now a.vars a.place) (sym (add-one l.j))))
+    let a = c.args in
+    let l = c.loop-j in
+    (omega arith, c.next_property-r.ensures ∙ ap (next_property a.text.now a.vars l.j) l.invariant.1 ∙ ap (properties_read a.text.now a.vars a.place) (sym (add-one l.j))))
     (λ c.
-    let a = c.before.before.before.args in
-    let end : c.before.loop.j ≡ a.properties = omega arith in
-    c.before.loop.invariant.1 ∙ ap (properties_read a.text.now a.vars a.place) end))
+    let a = c.args in
+    let end : c.loop-j.j ≡ a.properties = omega arith in
+    c.loop-j.invariant.1 ∙ ap (properties_read a.text.now a.vars a.place) end))

@@ -11,35 +11,34 @@ use Rattle.bodies.specs.Laws.Ranges.{rules_placed}
 use Rattle.bodies.proofs.rules.rule_lines.Statement.{statement}
 use Rattle.bodies.proofs.rules.rule_lines.Tie as tie
 
-abbrev invariant-loop : tie.invariant-loop
-invariant-loop text vars rules r₀ i₀ r i = (i ≤ rules) × (r ≡ rules_read text vars r₀ i)
+abbrev invariant-loop-i : tie.invariant-loop-i
+invariant-loop-i text vars rules r₀ i₀ r i = (i ≤ rules) × (r ≡ rules_read text vars r₀ i)
 
-abbrev decreases-loop : tie.decreases-loop
-decreases-loop text vars rules r₀ i₀ r i = rules - i
+abbrev decreases-loop-i : tie.decreases-loop-i
+decreases-loop-i text vars rules r₀ i₀ r i = rules - i
 
 pub rule_lines_spec : {M : Type 1} → statement M
 unfolding rules_read
 rule_lines_spec =
     tie.close
     (tie.spec
-    invariant-loop
-    decreases-loop
+    invariant-loop-i
+    decreases-loop-i
     (λ c. (omega arith, refl))
     (λ c κs.
-    let l = c.before.loop in
-    let s = c.before.before.before in
-    let a = s.args in
+    let l = c.loop-i in
+    let a = c.args in
     record {
-      part = omega (arith, s.requires.few);
-      place = subst (λ (r : Progress). Placed a.text.now r.place) (sym l.invariant.1) (rules_placed a.text.now a.vars a.before s.requires.place l.i);
+      part = omega (arith, c.requires.few);
+      place = subst (λ (r : Progress). Placed a.text.now r.place) (sym l.invariant.1) (rules_placed a.text.now a.vars a.before c.requires.place l.i);
     })
     (λ c. omega arith)
     (λ c. omega arith)
     (λ c.
-    let a = c.before.before.before.before.args in
-    let l = c.before.before.loop in
-    (omega arith, c.next_rule.ensures ∙ ap (next_rule a.text.now a.vars l.i) l.invariant.1 ∙ ap (rules_read a.text.now a.vars a.before) (sym (add-one l.i))))
+    let a = c.args in
+    let l = c.loop-i in
+    (omega arith, c.next_rule-r.ensures ∙ ap (next_rule a.text.now a.vars l.i) l.invariant.1 ∙ ap (rules_read a.text.now a.vars a.before) (sym (add-one l.i))))
     (λ c.
-    let a = c.before.before.before.args in
-    let end : c.before.loop.i ≡ a.rules = omega arith in
-    c.before.loop.invariant.1 ∙ ap (rules_read a.text.now a.vars a.before) end))
+    let a = c.args in
+    let end : c.loop-i.i ≡ a.rules = omega arith in
+    c.loop-i.invariant.1 ∙ ap (rules_read a.text.now a.vars a.before) end))

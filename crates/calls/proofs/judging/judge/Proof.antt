@@ -1,7 +1,7 @@
 -- `calls::judging::judge` meets its contract: a refused text is answered by its number and line, and an accepted one is judged as it is read.
 -- Assumes nothing.
 use borrow.Author.Rules.{rules}
-use Rattle.calls.specs.Laws.Answers.{is_read, is_refused}
+use Rattle.calls.proofs.Laws.Answers.{is_read, is_refused}
 use Rattle.calls.proofs.JudgeFacts.{by_text}
 use Rattle.calls.proofs.judging.judge.Statement.{statement}
 use Rattle.calls.proofs.judging.judge.Tie as tie
@@ -11,9 +11,9 @@ judge_spec =
     tie.close
     (tie.spec
     (λ c κs. tt)
-    (λ c. c.match.keys1)
-    (λ c. c.match.keys2)
-    (λ c κs. is_read _ c.before.before.before.before.read_model.ensures c.before.before.enum_told.given.1)
-    (λ c. by_text _ _ _ (is_refused _ c.before.before.before.read_model.ensures c.before.outcome.given.1))
+    (λ c. c.in-Refused-1.keys1)
+    (λ c. c.in-Accepted-1.keys2)
+    (λ c κs. is_read _ c.read_model-reading.ensures c.in-Accepted.is)
+    (λ c. by_text _ _ _ (is_refused _ c.read_model-reading.ensures c.in-Refused.is))
     (λ c. search rules)
-    (λ c. c.before.before.judge_model.ensures))
+    (λ c. c.judge_model.ensures))

@@ -17,11 +17,11 @@ pasted : (d s : List ℕ) (n : ℕ) → n ≤ length s → paste d 0 s n ≡ ove
 unfolding overwritten
 pasted d s n h = ap (λ (k : ℕ). take n s ++ drop k d) (zero-add n ∙ sym (length-take-le n s h))
 
-abbrev invariant-loop : tie.invariant-loop
-invariant-loop n lent₀ states i₀ lent i = (i ≤ n) × (lent ≡ paste lent₀ 0 states i)
+abbrev invariant-loop-i : tie.invariant-loop-i
+invariant-loop-i n lent₀ states i₀ lent i = (i ≤ n) × (lent ≡ paste lent₀ 0 states i)
 
-abbrev decreases-loop : tie.decreases-loop
-decreases-loop n lent₀ states i₀ lent i = n - i
+abbrev decreases-loop-i : tie.decreases-loop-i
+decreases-loop-i n lent₀ states i₀ lent i = n - i
 
 -- the lent bytes keep their number
 kept : (d s lent : List ℕ) (i : ℕ) → lent ≡ paste d 0 s i → i ≤ length d → i ≤ length s → length lent ≡ length d
@@ -31,28 +31,28 @@ pub put_front_spec : {M : Type 1} → statement M
 put_front_spec =
     tie.close
     (tie.spec
-    invariant-loop
-    decreases-loop
-    (λ c. (omega arith, paste-zero c.args.lent.now 0 c.args.t1))
+    invariant-loop-i
+    decreases-loop-i
+    (λ c. (omega arith, paste-zero c.args.lent.now 0 c.args.states))
     (λ c. omega arith)
     (λ c.
-    let a = c.before.before.args in
-    omega (arith, kept a.lent.now a.t1 c.before.loop.lent c.before.loop.i c.before.loop.invariant.1 (omega arith) (omega arith)))
+    let a = c.args in
+    omega (arith, kept a.lent.now a.states c.loop-i.lent c.loop-i.i c.loop-i.invariant.1 (omega arith) (omega arith)))
     (λ c. omega arith)
     (λ c. omega arith)
     (λ c.
-    let a = c.before.before.args in
-    let i : ℕ = c.before.loop.i in (
+    let a = c.args in
+    let i : ℕ = c.loop-i.i in (
       omega arith,
-      ap (λ (l : List ℕ). set l i (get_or a.t1 i 0)) c.before.loop.invariant.1
-          ∙ ap (λ (k : ℕ). set (paste a.lent.now 0 a.t1 i) k (get_or a.t1 i 0)) (sym (zero-add i))
-          ∙ paste-suc a.lent.now 0 a.t1 i 0 (omega arith) (omega arith)
-          ∙ ap (paste a.lent.now 0 a.t1) (sym (add-one i)),
+      ap (λ (l : List ℕ). set l i (get_or a.states i 0)) c.loop-i.invariant.1
+          ∙ ap (λ (k : ℕ). set (paste a.lent.now 0 a.states i) k (get_or a.states i 0)) (sym (zero-add i))
+          ∙ paste-suc a.lent.now 0 a.states i 0 (omega arith) (omega arith)
+          ∙ ap (paste a.lent.now 0 a.states) (sym (add-one i)),
     ))
     (λ c.
-    let a = c.before.before.args in
-    kept a.lent.now a.t1 c.before.loop.lent c.before.loop.i c.before.loop.invariant.1 (omega arith) (omega arith))
+    let a = c.args in
+    kept a.lent.now a.states c.loop-i.lent c.loop-i.i c.loop-i.invariant.1 (omega arith) (omega arith))
     (λ c.
-    let a = c.before.before.args in
-    let end : c.before.loop.i ≡ a.n = omega arith in
-    c.before.loop.invariant.1 ∙ ap (paste a.lent.now 0 a.t1) end ∙ pasted a.lent.now a.t1 a.n c.before.before.requires.known))
+    let a = c.args in
+    let end : c.loop-i.i ≡ a.n = omega arith in
+    c.loop-i.invariant.1 ∙ ap (paste a.lent.now 0 a.states) end ∙ pasted a.lent.now a.states a.n c.requires.known))

@@ -4,7 +4,7 @@ use borrow.Author.Rules.{rules}
 use Rattle.sorting.specs.declared.kinds.Kind.TheVariants.{Must, May, Irrelevant}
 use Rattle.sorting.specs.Which.{of_kind}
 use Rattle.sorting.specs.Kinds.{kinds_of}
-use Rattle.calls.specs.Laws.Answers.{few}
+use Rattle.calls.proofs.Laws.Answers.{few}
 use Rattle.calls.proofs.ListFacts.{kind_told}
 use Rattle.calls.proofs.kinds.rules_of.Statement.{statement}
 use Rattle.calls.proofs.kinds.rules_of.Tie as tie
@@ -15,11 +15,11 @@ rules_of_spec =
     tie.close
     (tie.spec
     (λ c. search rules)
-    (λ c κs. few c.before.before.before.requires)
+    (λ c κs. few c.requires)
     (λ c. search rules)
-    (λ c κs. few c.before.before.before.requires)
+    (λ c κs. few c.requires)
     (λ c. search rules)
-    (λ c κs. few c.before.before.before.requires)
-    (λ c. rw c.before.enum_told.given.1 (c.must.ensures ∙ kind_told c.before.before.before.before.requires Must))
-    (λ c. rw c.before.enum-told2.given.1 (ap (λ k. k.may) c.kinds.ensures ∙ kind_told c.before.before.before.before.requires May))
-    (λ c. rw c.before.enum-told3.given.1 (ap (λ k. k.irrelevant) c.kinds2.ensures ∙ kind_told c.before.before.before.before.requires Irrelevant)))
+    (λ c κs. few c.requires)
+    (λ c. rw c.in-Must.is (c.must.ensures ∙ kind_told c.requires Must))
+    (λ c. rw c.in-May.is (ap (λ k. k.may) c.kinds-kinds.ensures ∙ kind_told c.requires May))
+    (λ c. rw c.in-Irrelevant.is (ap (λ k. k.irrelevant) c.kinds-kinds-in-Irrelevant.ensures ∙ kind_told c.requires Irrelevant)))

@@ -12,5 +12,5 @@ answer_of_spec =
     (tie.spec
     (λ c. search rules)
     (λ c. search rules)
-    (λ c. ap of_listed (sym c.before.l.given.1))
-    (λ c. ap of_listed (sym c.enum_told.given.1)))
+    (λ c. ap of_listed (sym c.in-Count.is))
+    (λ c. ap of_listed (sym c.in-TooShort.is)))

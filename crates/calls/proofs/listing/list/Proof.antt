@@ -1,7 +1,7 @@
 -- `calls::listing::list` meets its contract: a refused text is answered by its number and line, and the list of an accepted one is found as it
 -- is read. Assumes nothing.
 use borrow.Author.Rules.{rules}
-use Rattle.calls.specs.Laws.Answers.{few, is_read, is_refused}
+use Rattle.calls.proofs.Laws.Answers.{few, is_read, is_refused}
 use Rattle.calls.proofs.ListFacts.{list_found, list_by_text}
 use Rattle.calls.proofs.listing.list.Statement.{statement}
 use Rattle.calls.proofs.listing.list.Tie as tie
@@ -13,11 +13,9 @@ list_spec =
     (λ c κs. search rules)
     (λ c. search rules)
     (λ c. search rules)
-    (λ c κs. few (is_read _ c.before.before.before.before.read_model.ensures c.before.before.enum_told.given.1))
+    (λ c κs. few (is_read _ c.read_model-reading.ensures c.in-Accepted.is))
     (λ c κs. search rules)
-    (λ c. list_by_text _ _ _ (is_refused _ c.before.before.before.read_model.ensures c.before.outcome.given.1))
+    (λ c. list_by_text _ _ _ (is_refused _ c.read_model-reading.ensures c.in-Refused.is))
     (λ c. search rules)
     (λ c.
-    let l = c.before.before.before in
-    let t = l.before.before.before in
-    list_found (is_read _ t.before.before.read_model.ensures t.enum_told.given.1) _ _ c.answer_of.ensures l.list.ensures))
+    list_found (is_read _ c.read_model-reading.ensures c.in-Accepted.is) _ _ c.answer_of.ensures c.list.ensures))

@@ -1,6 +1,6 @@
 -- `calls::reaching::put_marks` meets its contract. The loop's invariant: the bytes of the states below s stand at the front.
 -- Assumes nothing.
-use Prim.Native.Nat.{ℕ, ◌+◌, ◌-◌, ◌≤◌}
+use Prim.Native.Nat.{ℕ, ◌-◌, ◌≤◌}
 use mathlib.Core.Path.{◌≡◌, refl, sym, ap, ◌∙◌}
 use mathlib.Core.Bool.{Bool, false}
 use mathlib.Core.List.{List, ◌++◌}
@@ -30,35 +30,35 @@ put_all : (marks : List Bool) (lent : List ℕ) (n : ℕ) → put marks lent n �
 unfolding put overwritten
 put_all marks lent n = ap (λ (k : ℕ). tabulate n (byte marks) ++ drop k lent) (sym (length_tabulate n (byte marks)))
 
-abbrev invariant-loop : tie.invariant-loop
-invariant-loop n lent₀ marks s₀ lent s = (s ≤ n) × (lent ≡ put marks lent₀ s)
+abbrev invariant-loop-s : tie.invariant-loop-s
+invariant-loop-s n lent₀ marks s₀ lent s = (s ≤ n) × (lent ≡ put marks lent₀ s)
 
-abbrev decreases-loop : tie.decreases-loop
-decreases-loop n lent₀ marks s₀ lent s = n - s
+abbrev decreases-loop-s : tie.decreases-loop-s
+decreases-loop-s n lent₀ marks s₀ lent s = n - s
 
 pub put_marks_spec : {M : Type 1} → statement M
 unfolding put tabulate
 put_marks_spec =
     tie.close
     (tie.spec
-    invariant-loop
-    decreases-loop
+    invariant-loop-s
+    decreases-loop-s
     (λ c. (omega arith, refl))
     (λ c. omega arith)
     (λ c. search rules)
     (λ c.
-    let a = c.before.before.args in
-    omega (arith, ap length c.before.loop.invariant.1, length_put a.t1 a.lent.now c.before.loop.s (omega arith)))
+    let a = c.args in
+    omega (arith, ap length c.loop-s.invariant.1, length_put a.marks a.lent.now c.loop-s.s (omega arith)))
     (λ c. omega arith)
     (λ c. omega arith)
     (λ c.
-    let a = c.before.before.args in
-    let s : ℕ = c.before.loop.s in
-    (omega arith, ap (λ (l : List ℕ). set l s (byte a.t1 s)) c.before.loop.invariant.1 ∙ next_stored (byte a.t1) s a.lent.now (omega arith)))
+    let a = c.args in
+    let s : ℕ = c.loop-s.s in
+    (omega arith, ap (λ (l : List ℕ). set l s (byte a.marks s)) c.loop-s.invariant.1 ∙ next_stored (byte a.marks) s a.lent.now (omega arith)))
     (λ c.
-    let a = c.before.before.args in
-    ap length c.before.loop.invariant.1 ∙ length_put a.t1 a.lent.now c.before.loop.s (omega arith))
+    let a = c.args in
+    ap length c.loop-s.invariant.1 ∙ length_put a.marks a.lent.now c.loop-s.s (omega arith))
     (λ c.
-    let a = c.before.before.args in
-    let end : c.before.loop.s ≡ a.n = omega arith in
-    c.before.loop.invariant.1 ∙ ap (put a.t1 a.lent.now) end ∙ put_all a.t1 a.lent.now a.n))
+    let a = c.args in
+    let end : c.loop-s.s ≡ a.n = omega arith in
+    c.loop-s.invariant.1 ∙ ap (put a.marks a.lent.now) end ∙ put_all a.marks a.lent.now a.n))

@@ -12,5 +12,5 @@ codremif_blame_spec =
     tie.close
     (tie.spec
     (λ c κs. search rules)
-    (λ c κs. rw c.blame.ensures (blame_reads c.before.before.before.args.text.now c.before.before.before.args.log.now).range)
-    (λ c. c.pack_blame.ensures ∙ ap (λ a. packed (blame_parts a)) c.before.blame.ensures))
+    (λ c κs. rw c.blame.ensures (blame_reads c.args.text.now c.args.log.now).range)
+    (λ c. c.pack_blame.ensures ∙ ap (λ a. packed (blame_parts a)) c.blame.ensures))

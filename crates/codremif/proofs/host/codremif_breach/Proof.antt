@@ -12,4 +12,4 @@ codremif_breach_spec =
     (tie.spec
     (λ c κs. search rules)
     (λ c κs. search rules)
-    (λ c. c.breach_of.ensures ∙ ap breach_number c.before.blame.ensures))
+    (λ c. c.breach_of.ensures ∙ ap breach_number c.blame.ensures))

@@ -14,9 +14,9 @@ codremif_cuts_spec =
     (tie.spec
     (λ c κs. search rules)
     (λ c κs.
-    let a = c.before.before.before.before.before.before.args in
-    rw c.before.before.list.ensures.0 (list_reads Cuts a.text.now a.sets.now).range)
+    let a = c.args in
+    rw c.list.ensures.0 (list_reads Cuts a.text.now a.sets.now).range)
     (λ c. search rules)
     (λ c.
-    let l = c.before.before.before.list.ensures in
+    let l = c.list.ensures in
     (c.pack_list.ensures ∙ ap (λ a. packed (list_parts a)) l.0, l.1)))

@@ -12,5 +12,5 @@ codremif_irr_spec =
     tie.close
     (tie.spec
     (λ c κs. search rules)
-    (λ c κs. rw c.give.ensures (kind_reads _ c.before.before.args.text.now).range)
-    (λ c. c.pack_set.ensures ∙ ap (λ a. packed (set_parts a)) c.before.give.ensures))
+    (λ c κs. rw c.give.ensures (kind_reads _ c.args.text.now).range)
+    (λ c. c.pack_set.ensures ∙ ap (λ a. packed (set_parts a)) c.give.ensures))

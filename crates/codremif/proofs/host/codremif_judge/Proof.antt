@@ -13,7 +13,7 @@ codremif_judge_spec =
     (tie.spec
     (λ c κs. search rules)
     (λ c κs.
-    let a = c.before.before.before.before.before.before.args in
-    rw c.before.before.judge.ensures.0 (judge_reads a.text.now a.set a.trace.now).range)
+    let a = c.args in
+    rw c.judge.ensures.0 (judge_reads a.text.now a.set a.trace.now).range)
     (λ c. search rules)
-    (λ c. (c.pack_judge.ensures ∙ ap (λ a. packed (judge_parts a)) c.before.before.before.judge.ensures.0, c.before.before.before.judge.ensures.1)))
+    (λ c. (c.pack_judge.ensures ∙ ap (λ a. packed (judge_parts a)) c.judge.ensures.0, c.judge.ensures.1)))

@@ -12,5 +12,5 @@ codremif_one_core_spec =
     tie.close
     (tie.spec
     (λ c κs. search rules)
-    (λ c κs. rw c.one_core.ensures (one_core_reads c.before.before.before.args.text.now c.before.before.before.args.order.now).range)
-    (λ c. c.pack_one_core.ensures ∙ ap (λ a. packed (one_core_parts a)) c.before.one_core.ensures))
+    (λ c κs. rw c.one_core.ensures (one_core_reads c.args.text.now c.args.order.now).range)
+    (λ c. c.pack_one_core.ensures ∙ ap (λ a. packed (one_core_parts a)) c.one_core.ensures))

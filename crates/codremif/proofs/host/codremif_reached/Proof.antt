@@ -13,7 +13,7 @@ codremif_reached_spec =
     (tie.spec
     (λ c κs. search rules)
     (λ c κs.
-    let a = c.before.before.before.before.before.before.args in
-    rw c.before.before.reach.ensures.0 (reached_reads a.text.now a.set a.marks.now).range)
+    let a = c.args in
+    rw c.reach.ensures.0 (reached_reads a.text.now a.set a.marks.now).range)
     (λ c. search rules)
-    (λ c. (c.pack_reached.ensures ∙ ap (λ a. packed (reached_parts a)) c.before.before.before.reach.ensures.0, c.before.before.before.reach.ensures.1)))
+    (λ c. (c.pack_reached.ensures ∙ ap (λ a. packed (reached_parts a)) c.reach.ensures.0, c.reach.ensures.1)))

@@ -13,4 +13,4 @@ codremif_suffices_spec =
     (tie.spec
     (λ c κs. search rules)
     (λ c κs. rw c.suffices.ensures (suffices_range _ _ _))
-    (λ c. c.pack_suffices.ensures ∙ ap (λ a. packed (suffices_parts a)) c.before.suffices.ensures))
+    (λ c. c.pack_suffices.ensures ∙ ap (λ a. packed (suffices_parts a)) c.suffices.ensures))

@@ -12,4 +12,4 @@ codremif_witness_spec =
     (tie.spec
     (λ c κs. search rules)
     (λ c κs. search rules)
-    (λ c. c.place_of.ensures ∙ ap witness_place c.before.suffices.ensures))
+    (λ c. c.place_of.ensures ∙ ap witness_place c.suffices.ensures))

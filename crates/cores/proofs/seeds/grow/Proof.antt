@@ -46,43 +46,43 @@ module _ (R : ℕ) (h : ℕ → Bool) (unknown : List ℕ) (mono : Monotone R h)
           let t : test ≡ true = rw (n, x, y) in
           absurd (true≢false (sym t ∙ sym said ∙ f))
 
-abbrev invariant-loop : tie.invariant-loop
-invariant-loop masks t unknown most₀ i₀ most i = Growing t.rules (judge_by masks t) most₀.0 i most.0
+abbrev invariant-loop-i : tie.invariant-loop-i
+invariant-loop-i masks t unknown most₀ i₀ most i = Growing t.rules (judge_by masks t) most₀.0 i most.0
 
-abbrev decreases-loop : tie.decreases-loop
-decreases-loop masks t unknown most₀ i₀ most i = t.rules - i
+abbrev decreases-loop-i : tie.decreases-loop-i
+decreases-loop-i masks t unknown most₀ i₀ most i = t.rules - i
 
 -- where a rule is tried, and the function's start
-abbrev start : tie.Then1 invariant-loop decreases-loop → tie.Start invariant-loop decreases-loop
+abbrev start : tie.In-loop-i invariant-loop-i decreases-loop-i → tie.Start invariant-loop-i decreases-loop-i
 start c = c.before.before.before.before.before
 
 pub grow_spec : {M : Type 1} → statement M
 grow_spec =
     tie.close
     (tie.spec
-    invariant-loop
-    decreases-loop
-    (λ c. let able = c.before.before.requires.1 in record { within = omega arith; grown = ungrown _ _ _ able.broken able.below })
+    invariant-loop-i
+    decreases-loop-i
+    (λ c. let able = c.requires.1 in record { within = omega arith; grown = ungrown _ _ _ able.broken able.below })
     (λ c κs.
     let p = (start c).requires in (
       p.0.room,
       record {
-        rule = omega (arith, c.if1.true, p.0.few);
-        place = omega (arith, p.1.room, small _ _ _ p.0.more _ p.1 _ c.if1.true c.before.before.loop.invariant);
+        rule = omega (arith, c.loop-i-test.true, p.0.few);
+        place = omega (arith, p.1.room, small _ _ _ p.0.more _ p.1 _ c.loop-i-test.true c.loop-i.invariant);
       },
     ))
-    (λ c κs. let l = c.before.before in omega (arith, l.if1.true, (start l).requires.0.few))
+    (λ c κs. let l = c.before.before in omega (arith, l.loop-i-test.true, (start l).requires.0.few))
     (λ c. omega arith)
     (λ c. omega arith)
     (λ c.
     let l = c.before.before in
     let p = (start l).requires in
-    let i = l.before.before.loop.invariant in
+    let i = l.loop-i.invariant in
     ⊎_elim
-    (λ w. rw w.2 (taken _ _ _ p.0.more _ p.1 _ l.if1.true i c.before.stays_broken.ensures w.0.taken w.1.ensures))
-    (λ w. rw w.1 (left _ _ _ p.0.more _ p.1 _ l.if1.true i c.before.stays_broken.ensures w.0.left))
-    c.if2.branch)
+    (λ w. rw w.most-is (taken _ _ _ p.0.more _ p.1 _ l.loop-i-test.true i c.stays_broken.ensures w.if-stays_broken.true w.with-most.ensures))
+    (λ w. rw w.most-is (left _ _ _ p.0.more _ p.1 _ l.loop-i-test.true i c.stays_broken.ensures w.if-stays_broken.false))
+    c.if-stays_broken.branch-raw)
     (λ c.
-    let l = c.before.before.loop in
-    let end : l.i ≡ c.before.before.before.before.before.args.t.rules = omega (arith, l.invariant.within) in
+    let l = c.loop-i in
+    let end : l.i ≡ c.args.t.rules = omega (arith, l.invariant.within) in
     rw end at l.invariant.grown))

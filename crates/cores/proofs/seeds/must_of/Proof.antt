@@ -16,17 +16,14 @@ pub must_of_spec : {M : Type 1} → statement M
 must_of_spec =
     tie.close
     (tie.spec
-    (λ c κs. c.before.requires.few)
-    (λ c κs. c.before.before.requires.room)
+    (λ c κs. c.requires.few)
+    (λ c κs. c.requires.room)
     (λ c κs.
-    let s = c.before.before.before.before in
-    let all = c.before.before.full.ensures in
-    let h = judge_by s.args.masks.now s.args.t in
-    record { judges = s.requires; itself = all; holds = verdict h all c.before.is_held_lem.ensures c.if1.true })
+    let all = c.full-all.ensures in
+    let h = judge_by c.args.masks.now c.args.t in
+    record { judges = c.requires; itself = all; holds = verdict h all c.is_held.ensures c.if-is_held.true })
     (λ c κs. tt)
     (λ c. c.needed.ensures)
     (λ c.
-    let e = c.before in
-    let s = e.before.before.before.before in
-    let h = judge_by s.args.masks.now s.args.t in
-    c.empty.ensures ∙ sym (full_broken _ h s.requires.more (verdict h e.before.before.full.ensures e.before.is_held_lem.ensures e.if1.false)).no_must))
+    let h = judge_by c.args.masks.now c.args.t in
+    c.empty.ensures ∙ sym (full_broken _ h c.requires.more (verdict h c.full-all.ensures c.is_held.ensures c.if-is_held.false)).no_must))

@@ -13,7 +13,7 @@ use Rattle.sets.specs.Laws.Sets.{has_without}
 use Rattle.sets.specs.Cores.{Monotone}
 use Rattle.sets.specs.Lists.{must_of}
 use Rattle.systems.specs.ByTables.{judge_by}
-use Rattle.sets.specs.Laws.MustRules.{must_needed}
+use Rattle.sets.proofs.Laws.MustRules.{must_needed}
 use Rattle.cores.proofs.seeds.needed.Statement.{statement}
 use Rattle.cores.proofs.seeds.needed.Tie as tie
 
@@ -67,43 +67,43 @@ module _ (R : ℕ) (h : ℕ → Bool) where
           λ n. (f.each j).1 (n.below, λ _. n.broken),
         ))
 
-abbrev invariant-loop : tie.invariant-loop
-invariant-loop masks t all must₀ i₀ must i = Left t.rules (judge_by masks t) i must.0
+abbrev invariant-loop-i : tie.invariant-loop-i
+invariant-loop-i masks t all must₀ i₀ must i = Left t.rules (judge_by masks t) i must.0
 
-abbrev decreases-loop : tie.decreases-loop
-decreases-loop masks t all must₀ i₀ must i = t.rules - i
+abbrev decreases-loop-i : tie.decreases-loop-i
+decreases-loop-i masks t all must₀ i₀ must i = t.rules - i
 
 -- where a rule is tried, and the function's start
-abbrev start : tie.Then1 invariant-loop decreases-loop → tie.Start invariant-loop decreases-loop
+abbrev start : tie.In-loop-i invariant-loop-i decreases-loop-i → tie.Start invariant-loop-i decreases-loop-i
 start c = c.before.before.before.before
 
-loop_again : tie.Need-loop-preserved invariant-loop decreases-loop
+loop_again : tie.Need-loop-i-preserved invariant-loop-i decreases-loop-i
 loop_again c =
     let l = c.before.before.before.before in
     let a = (start l).args in
     let h = judge_by a.masks.now a.t in
     let all = (start l).requires.itself in
-    let i = l.before.before.loop in
-    let less = c.before.before.before.without.ensures in
-    let told = c.before.is_held_lem.ensures in
+    let i = l.loop-i in
+    let less = c.without-less.ensures in
+    let told = c.is_held.ensures in
     ⊎_elim
-    (λ w. rw w.1 (spared _ _ i.i i.invariant c.before.before.without2.ensures (verdict _ h i.i all less told w.0.taken)))
-    (λ w. rw w.1 (kept _ _ i.i i.invariant (verdict _ h i.i all less told w.0.left)))
-    c.if2.branch
+    (λ w. rw w.must-is (spared _ _ i.i i.invariant c.without-fewer.ensures (verdict _ h i.i all less told w.if-is_held.true)))
+    (λ w. rw w.must-is (kept _ _ i.i i.invariant (verdict _ h i.i all less told w.if-is_held.false)))
+    c.if-is_held.branch-raw
 
 pub needed_spec : {M : Type 1} → statement M
 needed_spec =
     tie.close
     (tie.spec
-    invariant-loop
-    decreases-loop
-    (λ c. all_left _ _ c.before.requires.itself)
-    (λ c κs. omega (arith, c.if1.true, (start c).requires.judges.few))
-    (λ c κs. omega (arith, c.before.if1.true, (start c.before).pre.judges.few))
-    (λ c κs. (start c.before.before).pre.judges.room)
+    invariant-loop-i
+    decreases-loop-i
+    (λ c. all_left _ _ c.requires.itself)
+    (λ c κs. omega (arith, c.loop-i-test.true, (start c).requires.judges.few))
+    (λ c κs. omega (arith, c.loop-i-test.true, (start c.before).requires.judges.few))
+    (λ c κs. (start c.before.before).requires.judges.room)
     (λ c. omega arith)
     (λ c. omega arith)
     loop_again
     (λ c.
-    let p = c.before.before.before.before.requires in
-    is_must _ _ _ c.before.before.loop.invariant p.judges.more p.holds c.if1.false))
+    let p = c.requires in
+    is_must _ _ _ c.loop-i.invariant p.judges.more p.holds c.loop-i-test.false))

@@ -58,54 +58,38 @@ module _ (R : ℕ) (h : ℕ → Bool) (end : ℕ) (unknown cores cuts : List ℕ
   all : end ≤ s → AllFound R h unknown cores cuts
   all l = none_unknown R h unknown cores cuts f.going (λ S b. f.first S (omega (arith, f.count)))
 
-abbrev invariant-loop : tie.invariant-loop
-invariant-loop masks t unknown₀ cores₀ cuts₀ end s₀ unknown cores cuts s =
+abbrev invariant-loop-s : tie.invariant-loop-s
+invariant-loop-s masks t unknown₀ cores₀ cuts₀ end s₀ unknown cores cuts s =
     Kept unknown₀ cores₀ cuts₀ unknown cores cuts × Finding t.rules (judge_by masks t) end unknown cores cuts s
 
-abbrev decreases-loop : tie.decreases-loop
-decreases-loop masks t unknown₀ cores₀ cuts₀ end s₀ unknown cores cuts s = end - s
-
--- the function's start, seen from where the sets were counted and from the loop
-abbrev counted : tie.After-set_count invariant-loop decreases-loop → tie.Start invariant-loop decreases-loop
-counted p = p.before.before.before.before.before
-
-abbrev start : tie.At-loop invariant-loop decreases-loop → tie.Start invariant-loop decreases-loop
-start p = counted p.before.before.before
-
--- a turn of the loop, seen from its call of `settle` and from after it
-abbrev turn : tie.After-settle invariant-loop decreases-loop → tie.In-loop invariant-loop decreases-loop
-turn p = p.before.before.before.before
-
-abbrev settled : tie.After-next-marked-arg2 invariant-loop decreases-loop → tie.After-settle invariant-loop decreases-loop
-settled p = p.before.before.before.before.before.before.before
+abbrev decreases-loop-s : tie.decreases-loop-s
+decreases-loop-s masks t unknown₀ cores₀ cuts₀ end s₀ unknown cores cuts s = end - s
 
 pub settle_all_spec : {M : Type 1} → statement M
 settle_all_spec =
     tie.close
     (tie.spec
-    invariant-loop
-    decreases-loop
-    (λ c κs. c.before.before.before.before.requires.judges.few)
-    (λ c κs. let u = (counted c.before).pre.all_unknown in (omega (arith, c.before.set_count.ensures, pow_mono u.few), omega (arith, c.before.set_count.ensures, u.room)))
+    invariant-loop-s
+    decreases-loop-s
+    (λ c κs. c.requires.judges.few)
+    (λ c κs. let u = c.requires.all_unknown in (omega (arith, c.set_count-end.ensures, pow_mono u.few), omega (arith, c.set_count-end.ensures, u.room)))
     (λ c.
-    let n = c.before.before in
-    let p = (counted n).requires in
-    (record { in_unknown = refl; in_cores = refl; in_cuts = refl }, begun _ _ _ _ _ _ _ n.set_count.ensures (all_unknown _ _ _ _ _ p.all_unknown p.no_cores p.no_cuts) (next_is _ c.next_marked.ensures)))
-    (λ c. let l = c.before.before.before in omega (arith, l.loop-test.true, small _ _ _ _ _ _ _ l.before.loop.invariant.1))
+    let n = c.before in
+    let p = c.requires in
+    (record { in_unknown = refl; in_cores = refl; in_cuts = refl }, begun _ _ _ _ _ _ _ n.set_count-end.ensures (all_unknown _ _ _ _ _ p.all_unknown p.no_cores p.no_cuts) (next_is _ c.next_marked-s.ensures)))
+    (λ c. omega (arith, c.loop-s-test.true, small _ _ _ _ _ _ _ c.loop-s.invariant.1))
     (λ c κs.
-    let l = c.before.before.before in
-    let f = l.before.loop.invariant.1 in
-    record { judges = (start l.before).pre.judges; going = f.going; seed = seed _ _ _ _ _ _ _ f l.loop-test.true })
-    (λ c. let l = turn (settled c) in omega (arith, l.loop-test.taken, small _ _ _ _ _ _ _ l.before.loop.inv.1))
-    (λ c κs. let f = (turn (settled c)).before.loop.inv.1 in (small _ _ _ _ _ _ _ f, omega (arith, f.count, (settled c).settle.ensures.going.room_unknown)))
-    (λ c. let l = turn (settled c.before) in omega (arith, l.loop-test.taken, (next_is _ c.next-marked2.ensures).after (omega (arith, l.loop-test.taken))))
+    let f = c.loop-s.invariant.1 in
+    record { judges = c.requires.judges; going = f.going; seed = seed _ _ _ _ _ _ _ f c.loop-s-test.true })
+    (λ c. omega (arith, c.loop-s-test.true, small _ _ _ _ _ _ _ c.loop-s.invariant.1))
+    (λ c κs. let f = c.loop-s.invariant.1 in (small _ _ _ _ _ _ _ f, omega (arith, f.count, c.settle.ensures.going.room_unknown)))
+    (λ c. omega (arith, c.loop-s-test.true, (next_is _ c.next_marked-s-in-loop-s.ensures).after (omega (arith, c.loop-s-test.true))))
     (λ c.
-    let l = turn (settled c.before) in
-    let i = l.before.loop.inv in (
-      record { in_unknown = c.before.before.before.before.before.before.before.unknown.given ∙ i.0.in_unknown; in_cores = c.before.before.before.before.before.cores.given ∙ i.0.in_cores; in_cuts = c.before.before.before.cuts.given ∙ i.0.in_cuts },
-      next _ _ _ _ _ _ _ i.1 l.loop-test.taken _ _ _ _ (settled c.before).settle.ensures (next_is _ c.next-marked2.ensures),
+    let i = c.loop-s.invariant in (
+      record { in_unknown = c.unknown-1.given ∙ i.0.in_unknown; in_cores = c.cores-1.given ∙ i.0.in_cores; in_cuts = c.cuts-1.given ∙ i.0.in_cuts },
+      next _ _ _ _ _ _ _ i.1 c.loop-s-test.true _ _ _ _ c.settle.ensures (next_is _ c.next_marked-s-in-loop-s.ensures),
     ))
-    (λ c. c.before.loop.invariant.0.in_unknown)
-    (λ c. c.before.loop.invariant.0.in_cores)
-    (λ c. c.before.loop.invariant.0.in_cuts)
-    (λ c. all _ _ _ _ _ _ _ c.before.loop.invariant.1 c.loop-test.false))
+    (λ c. c.loop-s.invariant.0.in_unknown)
+    (λ c. c.loop-s.invariant.0.in_cores)
+    (λ c. c.loop-s.invariant.0.in_cuts)
+    (λ c. all _ _ _ _ _ _ _ c.loop-s.invariant.1 c.loop-s-test.false))

@@ -3,7 +3,6 @@ use Prim.Native.Nat.{ℕ}
 use mathlib.Core.Path.{◌≡◌, sym, ap, ◌∙◌}
 use mathlib.Core.Bool.{Bool, true, false, not, ◌&&◌, and-false}
 use borrow.Author.Rules.{rules}
-use borrow.Author.Tests.{not-true, not-false}
 use Rattle.sets.specs.Sets.{with}
 use Rattle.systems.specs.ByTables.{judge_by}
 use Rattle.marks.specs.Marks.{marked}
@@ -28,13 +27,15 @@ stays_broken_spec =
     (λ c κs. search rules)
     (λ c κs. search rules)
     (λ c.
-    let a = c.before.before.before.before.before.args in
-    has_rule (marked a.unknown.now) (judge_by a.masks.now a.t) (with a.set.0 a.rule) _ c.before.has.ensures c.if1.true)
+    let a = c.args in
+    has_rule (marked a.unknown.now) (judge_by a.masks.now a.t) (with a.set.0 a.rule) _ c.has.ensures c.if-has.true)
     (λ c κs. search rules)
     (λ c.
-    let a = c.before.before.before.before.before.before.before.args in
-    not_marked (marked a.unknown.now) (judge_by a.masks.now a.t) (with a.set.0 a.rule) _ c.before.before.before.has.ensures c.before.before.before.before.with.ensures c.before.is_marked.ensures (not-true _ c.if2.true))
+    let a = c.args in
+    let unmarked : c.is_marked.result ≡ false = cc in
+    not_marked (marked a.unknown.now) (judge_by a.masks.now a.t) (with a.set.0 a.rule) _ c.has.ensures c.with-more.ensures c.is_marked.ensures unmarked)
     (λ c κs. search rules)
     (λ c.
-    let a = c.before.before.before.before.before.before.before.before.args in
-    is_judged (marked a.unknown.now) (judge_by a.masks.now a.t) (with a.set.0 a.rule) _ c.before.before.before.before.has.ensures c.before.before.before.before.before.with.ensures c.before.before.before.if1.false c.before.before.is_marked.ensures (not-false _ c.before.if2.false) c.is_held_lem.ensures))
+    let a = c.args in
+    let marked_now : c.is_marked.result ≡ true = cc in
+    is_judged (marked a.unknown.now) (judge_by a.masks.now a.t) (with a.set.0 a.rule) _ c.has.ensures c.with-more.ensures c.if-has.false c.is_marked.ensures marked_now c.is_held.ensures))

@@ -14,4 +14,4 @@ bit_at_spec =
     (tie.spec
     (λ c. search rules)
     (λ c. search rules)
-    (λ c. rw (div-eq_of_lt (lt_of_lt_of_le c.before.ranges.state.fits (pow_mono c.if1.false)))))
+    (λ c. rw (div-eq_of_lt (lt_of_lt_of_le c.ranges.state.fits (pow_mono c.if-place-lt64.false)))))

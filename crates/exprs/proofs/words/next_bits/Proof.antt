@@ -13,5 +13,5 @@ next_bits_spec =
     (λ c κs. search rules)
     (λ c κs. search rules)
     (λ c κs. search rules)
-    (λ c. low_letter _ _ _ (omega (arith, c.before.if1.true)) c.having.ensures)
-    (λ c. high_letter _ _ _ _ (omega (arith, c.before.before.if1.false)) c.before.bit_at.ensures c.same_bits.ensures))
+    (λ c. low_letter _ _ _ (omega (arith, c.if-place-lt6.true)) c.having.ensures)
+    (λ c. high_letter _ _ _ _ (omega (arith, c.if-place-lt6.false)) c.bit_at.ensures c.same_bits.ensures))

@@ -4,4 +4,4 @@ use Rattle.exprs.proofs.words.same_bits.Statement.{statement}
 use Rattle.exprs.proofs.words.same_bits.Tie as tie
 
 pub same_bits_spec : {M : Type 1} → statement M
-same_bits_spec = tie.close (tie.spec (λ c. rw c.if1.true (set_of_all 64)) (λ c. rw c.if1.false (set_of_none 64)))
+same_bits_spec = tie.close (tie.spec (λ c. rw c.if-v.true (set_of_all 64)) (λ c. rw c.if-v.false (set_of_none 64)))

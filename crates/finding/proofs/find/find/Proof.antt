@@ -8,24 +8,10 @@ use Rattle.models.specs.Written.{described}
 use Rattle.semantics.specs.Meaning.{judge}
 use Rattle.marks.specs.Marks.{table_by}
 use Rattle.finding.proofs.Arrays.{long, size, back}
-use Rattle.semantics.specs.Laws.Filled.{rules_are}
+use Rattle.semantics.proofs.Laws.Filled.{rules_are}
 use Rattle.finding.proofs.Filled.{judges, cores_are, cuts_are}
 use Rattle.finding.proofs.find.find.Statement.{statement}
 use Rattle.finding.proofs.find.find.Tie as tie
-
--- where the tables are filled, seen from where the words of a table are counted, and the function's start
-abbrev filled : tie.After-word_count → tie.After-fill
-filled p = p.before.before.before
-
-abbrev start : tie.After-word_count → tie.Start
-start p = (filled p).before.before.before.before.before.before.before
-
--- where the words are counted, seen from the call that finds and from the end
-abbrev counted : tie.After-find-arg4 → tie.After-word_count
-counted p = p.before.before.before.before
-
-abbrev called : tie.After-slice-known8 → tie.After-find
-called p = p.before.before.before.before.before.before
 
 pub find_spec : {M : Type 1} → statement M
 find_spec =
@@ -34,36 +20,34 @@ find_spec =
     (λ c κs. search rules)
     (λ c κs. search rules)
     (λ c. search rules)
-    (λ c. let w = c.before.before in long (start w).requires.1.in_unknown w.word_count.ensures)
+    (λ c. long c.requires.1.in_unknown c.word_count-words.ensures)
     (λ c. search rules)
-    (λ c. let w = c.before.before.before in long (start w).requires.1.in_cores w.word_count.ensures)
+    (λ c. long c.requires.1.in_cores c.word_count-words.ensures)
     (λ c. search rules)
-    (λ c. let w = counted c in long (start w).pre.1.in_cuts w.word_count.ensures)
+    (λ c. long c.requires.1.in_cuts c.word_count-words.ensures)
     (λ c κs.
-    let w = counted c in
-    let f = (filled w).fill.ensures in
-    let p = (start w).pre in
-    let text = (start w).args.text.now in
+    let f = c.fill-t.ensures in
+    let p = c.requires in
+    let text = c.args.text.now in
     let same = rules_are text p.0 f.1 f.0 in
     record {
       judges = judges text p.0 f.1 f.0;
-      in_unknown = rw same (size p.1.in_unknown w.word_count.ensures);
-      in_cores = rw same (size p.1.in_cores w.word_count.ensures);
-      in_cuts = rw same (size p.1.in_cuts w.word_count.ensures);
+      in_unknown = rw same (size p.1.in_unknown c.word_count-words.ensures);
+      in_cores = rw same (size p.1.in_cores c.word_count-words.ensures);
+      in_cuts = rw same (size p.1.in_cuts c.word_count-words.ensures);
     })
     (λ c. search rules)
     (λ c. search rules)
     (λ c. search rules)
     (λ c. search rules)
     (λ c.
-    let w = counted (called c).before in
-    let f = (filled w).fill.ensures in
-    let p = (start w).pre.0 in
-    let a = (start w).args in
+    let f = c.fill-t.ensures in
+    let p = c.requires.0 in
+    let a = c.args in
     let text = a.text.now in
     let h = judge (described text a.m) in
-    let words = w.word_count.ensures in
-    let found = (called c).find.ensures in (
+    let words = c.word_count-words.ensures in
+    let found = c.find.ensures in (
       back a.m.rules (is_core h) a.cores.now words (found.1.0 ∙ cores_are text p f.1 f.0),
       (
         back a.m.rules (is_cut a.m.rules h) a.cuts.now words (found.1.1 ∙ cuts_are text p f.1 f.0),

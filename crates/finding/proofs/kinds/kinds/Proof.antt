@@ -1,7 +1,7 @@
 -- `finding::kinds::kinds` meets its contract: each array has room for the masks.
 -- Assumes nothing.
 use native.Mathlib.Omega.{arith}
-use Rattle.semantics.specs.Laws.Filled.{repeats, array_room}
+use Rattle.semantics.proofs.Laws.Filled.{repeats, array_room}
 use Rattle.finding.proofs.kinds.kinds.Statement.{statement}
 use Rattle.finding.proofs.kinds.kinds.Tie as tie
 
@@ -10,11 +10,11 @@ kinds_spec =
     tie.close
     (tie.spec
     (λ c. repeats 640 0)
-    (λ c κs. let p = c.before.before.before.before.requires in array_room 640 2 (omega arith) (omega (arith, c.before.if1.true)) p)
+    (λ c κs. let p = c.requires in array_room 640 2 (omega arith) (omega (arith, c.if-m-le2.true)) p)
     (λ c. repeats 2176 0)
-    (λ c κs. let p = c.before.before.before.before.before.before.requires in array_room 2176 4 (omega arith) (omega (arith, c.before.if2.true)) p)
+    (λ c κs. let p = c.requires in array_room 2176 4 (omega arith) (omega (arith, c.if-m-le4.true)) p)
     (λ c. repeats 16512 0)
-    (λ c κs. let p = c.before.before.before.before.before.before.requires in array_room 16512 7 (omega arith) p.vars p)
-    (λ c. c.before.kinds_with.ensures)
-    (λ c. c.before.kinds-with2.ensures)
-    (λ c. c.before.kinds-with3.ensures))
+    (λ c κs. let p = c.requires in array_room 16512 7 (omega arith) p.vars p)
+    (λ c. c.kinds_with.ensures)
+    (λ c. c.kinds_with-then-m-le4.ensures)
+    (λ c. c.kinds_with-else-m-le4.ensures))

@@ -26,11 +26,11 @@ pub write_spec : {M : Type 1} → statement M
 write_spec =
     tie.close
     (tie.spec
-    (λ c κs. c.before.before.requires)
-    (λ c. short _ _ (omega (arith, c.before.count.ensures, c.if1.true)))
-    (λ c κs. (c.before.before.before.before.before.requires, omega (arith, c.before.before.count.ensures, c.before.if1.false)))
+    (λ c κs. c.requires)
+    (λ c. short _ _ (omega (arith, c.count-n.ensures, c.if-lent-n.true)))
+    (λ c κs. (c.requires, omega (arith, c.count-n.ensures, c.if-lent-n.false)))
     (λ c. search rules)
     (λ c.
-    let n = c.before.before.before.before.before.count.ensures in
-    let g = enough _ _ (omega (arith, n, c.before.before.before.before.if1.false)) in
-    (ap Count n ∙ g.0, c.before.before.write_sorted.ensures ∙ g.1)))
+    let n = c.count-n.ensures in
+    let g = enough _ _ (omega (arith, n, c.if-lent-n.false)) in
+    (ap Count n ∙ g.0, c.write_sorted.ensures ∙ g.1)))

@@ -15,6 +15,6 @@ write_one_spec =
     (λ c. search rules)
     (λ c κs. search rules)
     (λ c. search rules)
-    (λ c. rw c.before.before.before.before.enum_told.given.1 c.before.before.write.ensures)
+    (λ c. rw c.in-Cores.is c.write.ensures)
     (λ c. search rules)
-    (λ c. rw c.before.before.before.before.enum-told2.given.1 c.before.before.write2.ensures))
+    (λ c. rw c.in-Cuts.is c.write-in-Cuts.ensures))

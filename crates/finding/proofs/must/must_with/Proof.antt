@@ -5,17 +5,12 @@ use Rattle.finding.proofs.Filled.{judges, must_is}
 use Rattle.finding.proofs.must.must_with.Statement.{statement}
 use Rattle.finding.proofs.must.must_with.Tie as tie
 
--- the start, seen from where the tables are filled
-abbrev start : tie.After-fill → tie.Start
-start p = p.before.before.before.before
-
 pub must_with_spec : {M : Type 1} → statement M
 must_with_spec =
     tie.close
     (tie.spec
-    (λ c κs. c.before.before.before.requires)
-    (λ c κs. let f = c.before.before.before in judges (start f).args.text.now (start f).requires f.fill.ensures.1 f.fill.ensures.0)
+    (λ c κs. c.requires)
+    (λ c κs. let f = c in judges f.args.text.now f.requires f.fill-t.ensures.1 f.fill-t.ensures.0)
     (λ c. search rules)
     (λ c.
-    let f = c.before.before.before.before in
-    must_is (start f).args.text.now (start f).requires f.fill.ensures.1 f.fill.ensures.0 c.must_of.ensures))
+    must_is c.args.text.now c.requires c.fill-t.ensures.1 c.fill-t.ensures.0 c.must_of.ensures))

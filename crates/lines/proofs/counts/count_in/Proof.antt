@@ -9,7 +9,7 @@ use borrow.Author.Rules.{rules}
 use borrow.Author.Tests.{le-leb, lt-leb}
 use lib.Dec.{leb}
 use Rattle.lines.specs.Lines.{count_in}
-use Rattle.lines.specs.Laws.Lines.{count_within}
+use Rattle.lines.proofs.Laws.Lines.{count_within}
 use Rattle.lines.proofs.counts.count_in.Statement.{statement}
 use Rattle.lines.proofs.counts.count_in.Tie as tie
 
@@ -29,5 +29,5 @@ count_in_spec =
     tie.close
     (tie.spec
     (λ c κs. search rules)
-    (λ c. within _ _ c.before.before.before.requires c.before.number_in.ensures c.if1.true)
-    (λ c. above _ _ c.before.before.before.requires c.before.number_in.ensures c.if1.false))
+    (λ c. within _ _ c.requires c.number_in-n.ensures c.if-n-most.true)
+    (λ c. above _ _ c.requires c.number_in-n.ensures c.if-n-most.false))

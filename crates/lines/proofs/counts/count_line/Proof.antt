@@ -11,8 +11,8 @@ use Rattle.lines.specs.declared.line.Line.TheVariants.{Fault, Read}
 use Rattle.lines.specs.declared.line.End.{End}
 use Rattle.lines.specs.declared.line.End.TheVariants.{Missing}
 use Rattle.lines.specs.Lines.{end_of, value_of, count_in, counted, count_line}
-use Rattle.lines.specs.Laws.Lines.{counted_more}
-use Rattle.lines.specs.Laws.Ended.{Ended, ended, no_line, end_within, value_is, says_is, on_line_lem}
+use Rattle.lines.proofs.Laws.Lines.{counted_more}
+use Rattle.lines.proofs.Laws.Ended.{Ended, ended, no_line, end_within, value_is, says_is, on_line_lem}
 use Rattle.lines.proofs.counts.count_line.Statement.{statement}
 use Rattle.lines.proofs.counts.count_line.Tie as tie
 
@@ -33,10 +33,6 @@ missing : (key : List ℕ) (most : ℕ) (s : List ℕ) {r : End} → r ≡ end_o
 unfolding count_line
 missing key most s = no_line (Fault 1) _ key s
 
--- where the end of the line is known
-ended_of : (p : tie.After-end) → Ended p.before.before.before.before.before.args.key.now p.before.before.before.before.before.args.s.now p.end.given.0.0
-ended_of p = ended p.before.before.end_of.ensures p.end.given.1
-
 pub count_line_spec : {M : Type 1} → statement M
 count_line_spec =
     tie.close
@@ -44,9 +40,9 @@ count_line_spec =
     (λ c κs. search rules)
     (λ c. search rules)
     (λ c. search rules)
-    (λ c. missing _ _ _ c.before.before.end_of.ensures c.enum_told.given.1)
+    (λ c. missing _ _ _ c.end_of.ensures c.in_default.is)
     (λ c κs. search rules)
     (λ c κs. search rules)
-    (λ c. let p = c.before in at_fault (ended_of p.before.before.before) _ p.before.part.ensures.0 p.count_in.ensures c.if1.true)
-    (λ c. omega (arith, end_within (ended_of c.before.before.before.before)))
-    (λ c. let p = c.before in read (ended_of p.before.before.before) _ p.before.part.ensures.0 p.count_in.ensures c.if1.false))
+    (λ c. at_fault (ended c.end_of.ensures c.in-At.is) _ c.part.ensures.0 c.count_in-n.ensures c.if-n-eq0.true)
+    (λ c. omega (arith, end_within (ended c.end_of.ensures c.in-At.is)))
+    (λ c. read (ended c.end_of.ensures c.in-At.is) _ c.part.ensures.0 c.count_in-n.ensures c.if-n-eq0.false))

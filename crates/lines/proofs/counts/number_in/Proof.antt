@@ -12,7 +12,7 @@ use lib.Dec.{leb, eqb}
 use lib.ListN.{length, get_or}
 use Rattle.lines.specs.Lines.{count_in}
 use Rattle.lines.specs.Laws.Decimal.{decimal_one, decimal_two, decimal_short}
-use Rattle.lines.specs.Laws.Lines.{count_there, count_none}
+use Rattle.lines.proofs.Laws.Lines.{count_there, count_none}
 use Rattle.lines.proofs.counts.number_in.Statement.{statement}
 use Rattle.lines.proofs.counts.number_in.Tie as tie
 
@@ -91,19 +91,19 @@ module _ (v : List ℕ) where
 
 module _ (p : tie.After-is_digit) where
   abbrev text : List ℕ
-  text = p.before.before.before.before.args.v.now
+  text = p.args.v.now
 
-module _ (p : tie.Then4) where
+module _ (p : tie.Then-b-is_digit) where
   abbrev text2 : List ℕ
-  text2 = p.before.before.before.before.before.before.before.before.args.v.now
+  text2 = p.args.v.now
 
   digits : (48 ≤ get_or text2 0 0) × (get_or text2 0 0 ≤ 57) × (48 ≤ get_or text2 1 0) × (get_or text2 1 0 ≤ 57)
   digits =
-      let x : Bool = p.before.before.is-digit2.result in
-      let y : Bool = p.before.is-digit3.result in
-      let e = (and-eq-true_iff x y).0 ((and-eq-true_iff (not (eqb (get_or text2 0 0) 48)) (x && y)).0 p.if4.taken).1 in
-      let d = digit (get_or text2 0 0) p.before.before.is-digit2.ensures e.0 in
-      let u = digit (get_or text2 1 0) p.before.is-digit3.ensures e.1 in
+      let x : Bool = p.is_digit-2.result in
+      let y : Bool = p.is_digit-3.result in
+      let e = (and-eq-true_iff x y).0 ((and-eq-true_iff (not (eqb (get_or text2 0 0) 48)) (x && y)).0 p.if-b-is_digit.true).1 in
+      let d = digit (get_or text2 0 0) p.is_digit-2.ensures e.0 in
+      let u = digit (get_or text2 1 0) p.is_digit-3.ensures e.1 in
       (d.0, d.1, u.0, u.1)
 
 pub number_in_spec : {M : Type 1} → statement M
@@ -112,11 +112,11 @@ number_in_spec =
     (tie.spec
     (λ c. search rules)
     (λ c κs. search rules)
-    (λ c. omega (arith, digit (get_or (text c.before) 0 0) c.before.is_digit.ensures c.if2.true))
-    (λ c. omega (arith, digit (get_or (text c.before) 0 0) c.before.is_digit.ensures c.if2.true))
-    (λ c. one_digit (text c.before) c.before.before.before.if1.true c.before.is_digit.ensures c.if2.true)
-    (λ c. no_digit (text c.before) c.before.before.before.if1.true c.before.is_digit.ensures c.if2.false)
-    (λ c. other _ c.before.if1.false c.if3.true)
+    (λ c. omega (arith, digit (get_or (text c.before) 0 0) c.is_digit.ensures c.if-is_digit.true))
+    (λ c. omega (arith, digit (get_or (text c.before) 0 0) c.is_digit.ensures c.if-is_digit.true))
+    (λ c. one_digit (text c.before) c.if-v-eq1.true c.is_digit.ensures c.if-is_digit.true)
+    (λ c. no_digit (text c.before) c.if-v-eq1.true c.is_digit.ensures c.if-is_digit.false)
+    (λ c. other _ c.if-v-eq1.false c.if-v-ne2.true)
     (λ c. search rules)
     (λ c. search rules)
     (λ c κs. search rules)
@@ -127,5 +127,5 @@ number_in_spec =
     (λ c. omega (arith, digits c))
     (λ c. omega (arith, digits c))
     (λ c. omega (arith, digits c))
-    (λ c. two_digits (text2 c) c.before.before.before.before.before.if3.false c.before.before.is-digit2.ensures c.before.is-digit3.ensures c.if4.true)
-    (λ c. no_digits _ c.before.before.before.before.before.if3.false c.before.before.is-digit2.ensures c.before.is-digit3.ensures c.if4.false))
+    (λ c. two_digits (text2 c) c.if-v-ne2.false c.is_digit-2.ensures c.is_digit-3.ensures c.if-b-is_digit.true)
+    (λ c. no_digits _ c.if-v-ne2.false c.is_digit-2.ensures c.is_digit-3.ensures c.if-b-is_digit.false))

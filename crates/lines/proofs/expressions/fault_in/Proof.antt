@@ -13,7 +13,7 @@ use Rattle.lines.specs.declared.classes.Class.{Class}
 use Rattle.lines.specs.declared.classes.Class.TheVariants.{InExpression, Allowed, InExpressionOf}
 use Rattle.lines.specs.Bytes.{prefix}
 use Rattle.lines.specs.Lines.{all, is_one, fault_of}
-use Rattle.lines.specs.Laws.Numbers.{expression_numbers}
+use Rattle.lines.proofs.Laws.Numbers.{expression_numbers}
 use Rattle.lines.specs.Laws.Bytes.{all_in_expression_of}
 use Rattle.lines.proofs.expressions.fault_in.Statement.{statement}
 use Rattle.lines.proofs.expressions.fault_in.Tie as tie
@@ -64,20 +64,17 @@ fault_in_spec =
     tie.close
     (tie.spec
     (λ c. too_short _ _ _ (omega arith))
-    (λ c. too_long _ _ _ c.if2.true)
+    (λ c. too_long _ _ _ (omega arith))
     (λ c κs. search rules)
     (λ c κs. search rules)
-    (λ c. wrong_byte _ _ _ (omega arith) (omega arith) (not_all _ _ _ c.before.prefix-of2.ensures c.if4.true))
+    (λ c. wrong_byte _ _ _ (omega arith) (omega arith) (not_all _ _ _ c.prefix_of-then-prefix_of-n.ensures c.if-prefix_of-n-2.true))
     (λ c.
-    let t = c.before.before in
-    let bytes = all_in _ _ _ c.before.prefix-of2.ensures c.if4.false in
-    wrong_letter _ _ _ (omega arith) (omega arith) bytes (letter_left _ _ _ (not_all _ _ _ t.before.prefix_of.ensures t.if3.true) bytes))
+    let bytes = all_in _ _ _ c.prefix_of-then-prefix_of-n.ensures c.if-prefix_of-n-2.false in
+    wrong_letter _ _ _ (omega arith) (omega arith) bytes (letter_left _ _ _ (not_all _ _ _ c.prefix_of.ensures c.if-prefix_of-n.true) bytes))
     (λ c κs. search rules)
     (λ c.
-    let l = c.before.before in
-    let b = both _ _ _ (all_in _ _ _ l.before.prefix_of.ensures l.if3.false) in
-    right _ _ _ (omega arith) (omega arith) b.0 b.1 (sym c.before.is_one.ensures ∙ c.if5.true))
+    let b = both _ _ _ (all_in _ _ _ c.prefix_of.ensures c.if-prefix_of-n.false) in
+    right _ _ _ (omega arith) (omega arith) b.0 b.1 (sym c.is_one.ensures ∙ c.if-is_one.true))
     (λ c.
-    let l = c.before.before in
-    let b = both _ _ _ (all_in _ _ _ l.before.prefix_of.ensures l.if3.false) in
-    not_one _ _ _ (omega arith) (omega arith) b.0 b.1 (sym c.before.is_one.ensures ∙ c.if5.false)))
+    let b = both _ _ _ (all_in _ _ _ c.prefix_of.ensures c.if-prefix_of-n.false) in
+    not_one _ _ _ (omega arith) (omega arith) b.0 b.1 (sym c.is_one.ensures ∙ c.if-is_one.false)))

@@ -42,5 +42,5 @@ is_one_spec =
     (λ c κs. search rules)
     (λ c. search rules)
     (λ c. search rules)
-    (λ c. whole _ _ (sym c.before.before.before.read.ensures ∙ c.before.x.given.1))
-    (λ c. none_whole _ (sym c.before.before.read.ensures ∙ c.enum_told.given.1)))
+    (λ c. whole _ _ (sym c.read-x.ensures ∙ c.in-Used.is))
+    (λ c. none_whole _ (sym c.read-x.ensures ∙ c.in-NoExpression.is)))

@@ -10,8 +10,8 @@ use borrow.Author.Rules.{rules}
 use lib.ListN.{length, take, drop}
 use Rattle.lines.specs.declared.line.Line.TheVariants.{Fault, Read}
 use Rattle.lines.specs.Lines.{value_of, says, unless_fault, fault_of, state_line}
-use Rattle.lines.specs.Laws.Ended.{Ended, ended, no_line, end_within, value_is, says_is, on_line_lem, faulted}
-use Rattle.lines.specs.Laws.Lines.{unfaulted}
+use Rattle.lines.proofs.Laws.Ended.{Ended, ended, no_line, end_within, value_is, says_is, on_line_lem, faulted}
+use Rattle.lines.proofs.Laws.Lines.{unfaulted}
 use Rattle.lines.proofs.expressions.state_line.Statement.{statement}
 use Rattle.lines.proofs.expressions.state_line.Tie as tie
 
@@ -30,10 +30,6 @@ module _ {key s : List ℕ} {end : ℕ} (e : Ended key s end) (vars : ℕ) {v : 
       on_line_lem e (Fault 1) (Read (length key) (end + 1))
       (ap (λ n. unless_fault Fault n (says (length key) s)) number_is ∙ unfaulted Fault number _ h ∙ sym (says_is e (length key)))
 
--- where the end of the line is known
-ended_of : (p : tie.After-end) → Ended p.before.before.before.before.before.args.key.now p.before.before.before.before.before.args.s.now p.end.given.0.0
-ended_of p = ended p.before.before.end_of.ensures p.end.given.1
-
 pub state_line_spec : {M : Type 1} → statement M
 unfolding state_line
 state_line_spec =
@@ -42,9 +38,9 @@ state_line_spec =
     (λ c κs. search rules)
     (λ c. search rules)
     (λ c. search rules)
-    (λ c. no_line (Fault 1) _ _ _ c.before.before.end_of.ensures c.enum_told.given.1)
+    (λ c. no_line (Fault 1) _ _ _ c.end_of.ensures c.in_default.is)
     (λ c κs. search rules)
     (λ c κs. search rules)
-    (λ c. let p = c.before in at_fault (ended_of p.before.before.before) _ p.before.part.ensures.0 p.fault_in.ensures c.if1.true)
-    (λ c. omega (arith, end_within (ended_of c.before.before.before.before)))
-    (λ c. let p = c.before in read (ended_of p.before.before.before) _ p.before.part.ensures.0 p.fault_in.ensures c.if1.false))
+    (λ c. at_fault (ended c.end_of.ensures c.in-At.is) _ c.part.ensures.0 c.fault_in-number.ensures c.if-number-ne0.true)
+    (λ c. omega (arith, end_within (ended c.end_of.ensures c.in-At.is)))
+    (λ c. read (ended c.end_of.ensures c.in-At.is) _ c.part.ensures.0 c.fault_in-number.ensures c.if-number-ne0.false))

@@ -2,7 +2,7 @@
 -- Assumes nothing.
 use mathlib.Core.Path.{sym, ◌∙◌}
 use borrow.Author.Rules.{rules}
-use borrow.Author.Tests.{not-true, not-false, lt-ltb, le-ltb}
+use borrow.Author.Tests.{lt-ltb, le-ltb}
 use Rattle.lines.specs.Lines.{is_line, end_of}
 use Rattle.lines.proofs.line.end_of.Statement.{statement}
 use Rattle.lines.proofs.line.end_of.Tie as tie
@@ -13,7 +13,7 @@ end_of_spec =
     tie.close
     (tie.spec
     (λ c κs. search rules)
-    (λ c. rw (sym c.before.starts_with.ensures ∙ not-true _ c.if1.true))
+    (λ c. rw (sym c.starts_with.ensures ∙ c.if-not-starts_with.true))
     (λ c κs. search rules)
-    (λ c. rw (sym c.before.before.before.starts_with.ensures ∙ not-false _ c.before.before.if1.false, ← c.before.line_length.ensures, lt-ltb _ _ c.if2.true))
-    (λ c. rw (sym c.before.before.before.starts_with.ensures ∙ not-false _ c.before.before.if1.false, ← c.before.line_length.ensures, le-ltb _ _ c.if2.false)))
+    (λ c. rw (sym c.starts_with.ensures ∙ c.if-not-starts_with.false, ← c.line_length-end.ensures, lt-ltb _ _ c.if-end-s.true))
+    (λ c. rw (sym c.starts_with.ensures ∙ c.if-not-starts_with.false, ← c.line_length-end.ensures, le-ltb _ _ c.if-end-s.false)))

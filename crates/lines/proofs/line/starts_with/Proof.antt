@@ -12,4 +12,4 @@ starts_with_spec =
     (tie.spec
     (λ c κs. search rules)
     (λ c κs. search rules)
-    (λ c. c.same_bytes.ensures ∙ ap (λ l. same l c.before.before.before.before.args.key.now) c.before.front.ensures.0))
+    (λ c. c.same_bytes.ensures ∙ ap (λ l. same l c.args.key.now) c.front.ensures.0))

@@ -1,5 +1,5 @@
 -- `logs::blame::blame` meets its contract: the set and the place are those of the definition. Assumes nothing.
-use Rattle.logs.specs.Laws.Log.{both_said}
+use Rattle.logs.proofs.Laws.Log.{both_said}
 use Rattle.logs.proofs.blame.blame.Statement.{statement}
 use Rattle.logs.proofs.blame.blame.Tie as tie
 
@@ -7,6 +7,6 @@ pub blame_spec : {M : Type 1} → statement M
 blame_spec =
     tie.close
     (tie.spec
-    (λ c κs. c.before.before.requires)
-    (λ c κs. let p = c.before.before.before.requires in (p.room.few, p.states))
-    (λ c. both_said _ _ _ _ _ c.before.blamed_set.ensures c.breach_place.ensures))
+    (λ c κs. c.requires)
+    (λ c κs. let p = c.requires in (p.room.few, p.states))
+    (λ c. both_said _ _ _ _ _ c.blamed_set.ensures c.breach_place.ensures))

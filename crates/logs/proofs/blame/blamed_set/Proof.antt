@@ -16,7 +16,7 @@ use Rattle.sets.specs.Laws.Gathered.{is_set_of, and_has}
 use Rattle.systems.specs.declared.tables.Tables.{Tables}
 use Rattle.logs.specs.Log.{is_broken, neighbours, blamed_set}
 use Rattle.logs.specs.ByTables.{start_met_by, step_met_by, Readable}
-use Rattle.logs.specs.Laws.Log.{broken_first, broken_next}
+use Rattle.logs.proofs.Laws.Log.{broken_first, broken_next}
 use Rattle.logs.proofs.blame.blamed_set.Statement.{statement}
 use Rattle.logs.proofs.blame.blamed_set.Tie as tie
 
@@ -71,18 +71,11 @@ module _ (masks : List ℕ) (t : Tables) (log : List ℕ) where
       other true n e = refl
       other false n e = absurd (n e)
 
-abbrev invariant-loop : tie.invariant-loop
-invariant-loop masks t log first met₀ last k₀ met k = Met masks t log k met
+abbrev invariant-loop-k : tie.invariant-loop-k
+invariant-loop-k masks t log first met₀ last k₀ met k = Met masks t log k met
 
-abbrev decreases-loop : tie.decreases-loop
-decreases-loop masks t log first met₀ last k₀ met k = last - k
-
--- the start, seen from the loop; and the loop, seen from where the second state of a pair has been read
-abbrev start : tie.At-loop invariant-loop decreases-loop → tie.Start invariant-loop decreases-loop
-start l = l.before.before.before.before.before.before
-
-abbrev loop : tie.After-shared-slice-known6 invariant-loop decreases-loop → tie.At-loop invariant-loop decreases-loop
-loop c = c.before.before.before
+abbrev decreases-loop-k : tie.decreases-loop-k
+decreases-loop-k masks t log first met₀ last k₀ met k = last - k
 
 -- the states of a pair are states, so its mask is there
 record Pair (masks : List ℕ) (s u : ℕ) : Type 0 where
@@ -96,39 +89,34 @@ pair masks t log p k h =
     let b = p.states.states (k + 1) h in
     omega (arith, a, b, p.room.few, p.room.room)
 
-abbrev here : (c : tie.After-shared-slice-known6 invariant-loop decreases-loop)
-    → let a = (start (loop c)).args in Pair a.masks.now (get_or a.log.now (loop c).loop.k 0) (get_or a.log.now ((loop c).loop.k + 1) 0)
-here c = let a = (start (loop c)).args in pair a.masks.now a.t a.log.now (start (loop c)).pre (loop c).loop.k (omega arith)
-
 pub blamed_set_spec : {M : Type 1} → statement M
 blamed_set_spec =
     tie.close
     (tie.spec
-    invariant-loop
-    decreases-loop
-    (λ c. c.before.before.before.requires.states.nonempty)
-    (λ c. omega (arith, c.shared-slice-known3.given 0))
-    (λ c. omega (arith, c.before.before.before.before.requires.room.few))
-    (λ c. omega (arith, c.before.before.before.before.requires.room.few, c.before.shared-slice-known3.given 0))
-    (λ c. omega (arith, c.before.before.before.before.requires.room.few, c.before.shared-slice-known3.given 0))
-    (λ c. let p = c.before.before.before.before.before.requires in omega (arith, p.room.few, p.room.room, p.states.states 0 p.states.nonempty))
-    (λ c. omega (arith, c.before.before.before.before.before.requires.states.nonempty))
+    invariant-loop-k
+    decreases-loop-k
+    (λ c. c.requires.states.nonempty)
+    (λ c. omega (arith, c.shared_slice_known-3-1.given 0))
+    (λ c. omega (arith, c.requires.room.few))
+    (λ c. omega (arith, c.requires.room.few, c.shared_slice_known-3-1.given 0))
+    (λ c. omega (arith, c.requires.room.few, c.shared_slice_known-3-1.given 0))
+    (λ c. let p = c.requires in omega (arith, p.room.few, p.room.room, p.states.states 0 p.states.nonempty))
+    (λ c. omega (arith, c.requires.states.nonempty))
     (λ c. first_met _ _ _)
     (λ c. omega arith)
-    (λ c. omega (arith, c.shared-slice-known5.given c.before.before.loop.k))
+    (λ c. omega (arith, c.shared_slice_known-in-loop-k-1.given c.loop-k.k))
     (λ c. omega arith)
     (λ c. omega arith)
-    (λ c. omega (arith, (here c).second))
-    (λ c. omega (arith, (here c).first))
-    (λ c. omega (arith, (here c).first, (here c).second))
-    (λ c. omega (arith, (here c).first, (here c).second))
-    (λ c. (here c.before).within)
+    (λ c. omega (arith, (pair c.args.masks.now c.args.t c.args.log.now c.requires c.loop-k.k (omega arith)).second))
+    (λ c. omega (arith, (pair c.args.masks.now c.args.t c.args.log.now c.requires c.loop-k.k (omega arith)).first))
+    (λ c. omega (arith, (pair c.args.masks.now c.args.t c.args.log.now c.requires c.loop-k.k (omega arith)).first, (pair c.args.masks.now c.args.t c.args.log.now c.requires c.loop-k.k (omega arith)).second))
+    (λ c. omega (arith, (pair c.args.masks.now c.args.t c.args.log.now c.requires c.loop-k.k (omega arith)).first, (pair c.args.masks.now c.args.t c.args.log.now c.requires c.loop-k.k (omega arith)).second))
+    (λ c. (pair c.args.masks.now c.args.t c.args.log.now c.requires c.loop-k.k (omega arith)).within)
     (λ c. omega arith)
     (λ c. omega arith)
-    (λ c. next_met _ _ _ (loop c.before).loop.k (omega arith) (loop c.before).loop.inv)
-    (λ c κs. (start c.before).pre.few)
+    (λ c. next_met _ _ _ c.loop-k.k (omega arith) c.loop-k.invariant)
+    (λ c κs. c.requires.few)
     (λ c κs. tt)
     (λ c.
-    let l = c.before.before.before in
-    let a = (start l).args in
-    c.less.ensures ∙ ap (λ (S : ℕ). S - bit_and S l.loop.met) c.before.full.ensures ∙ all_met a.masks.now a.t a.log.now (omega arith) l.loop.invariant))
+    let a = c.args in
+    c.less.ensures ∙ ap (λ (S : ℕ). S - bit_and S c.loop-k.met) c.full.ensures ∙ all_met a.masks.now a.t a.log.now (omega arith) c.loop-k.invariant))

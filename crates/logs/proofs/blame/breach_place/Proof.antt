@@ -10,7 +10,7 @@ use mir.Val.{Fits}
 use lib.ListN.{length, get_or}
 use Rattle.systems.specs.ByTables.{mark_at}
 use Rattle.logs.specs.Log.{breach_place}
-use Rattle.logs.specs.Laws.Log.{is_breach_place}
+use Rattle.logs.proofs.Laws.Log.{is_breach_place}
 use Rattle.logs.proofs.blame.breach_place.Statement.{statement}
 use Rattle.logs.proofs.blame.breach_place.Tie as tie
 
@@ -34,18 +34,11 @@ module _ (bad : ℕ → Bool) (log : List ℕ) where
   none_bad : {left : ℕ} → left ≡ 0 → NoneYet left → length log ≡ breach_place bad log
   none_bad z f = is_breach_place bad log (record { within = omega arith; passes = λ h. absurd (omega arith); before = λ k h. f.none k (omega arith) })
 
-abbrev invariant-loop : tie.invariant-loop
-invariant-loop log t left₀ left = NoneYet (mark_at t.bad) log left
+abbrev invariant-loop-left : tie.invariant-loop-left
+invariant-loop-left log t left₀ left = NoneYet (mark_at t.bad) log left
 
-abbrev decreases-loop : tie.decreases-loop
-decreases-loop log t left₀ left = left
-
--- the loop and the start, seen from where a state has been read
-abbrev loop : tie.After-shared-slice-known invariant-loop decreases-loop → tie.At-loop invariant-loop decreases-loop
-loop c = c.before.before
-
-abbrev start : tie.After-shared-slice-known invariant-loop decreases-loop → tie.Start invariant-loop decreases-loop
-start c = (loop c).before
+abbrev decreases-loop-left : tie.decreases-loop-left
+decreases-loop-left log t left₀ left = left
 
 -- a state fits a wider number and has a mark, wherever it stands
 wider : {n : ℕ} → Fits w8 n → Fits w64 n
@@ -59,15 +52,15 @@ unfolding mark_at
 breach_place_spec =
     tie.close
     (tie.spec
-    invariant-loop
-    decreases-loop
+    invariant-loop-left
+    decreases-loop-left
     (λ c. none_looked_at _ _)
-    (λ c. omega (arith, c.before.loop.invariant.within))
-    (λ c. omega (arith, (loop c).loop.invariant.within))
-    (λ c. wider (c.shared-slice-known.given _))
-    (λ c. marked (start c).requires.0 ((start c).requires.1.states _ (omega (arith, (loop c).loop.invariant.within))))
-    (λ c. first_bad _ _ (omega arith) c.if1.true (loop c.before.before).loop.inv)
+    (λ c. omega (arith, c.loop-left.invariant.within))
+    (λ c. omega (arith, c.loop-left.invariant.within))
+    (λ c. wider (c.shared_slice_known-1.given _))
+    (λ c. marked c.requires.0 (c.requires.1.states _ (omega (arith, c.loop-left.invariant.within))))
+    (λ c. first_bad _ _ (omega arith) c.if-t-s.true c.loop-left.invariant)
     (λ c. omega arith)
     (λ c. omega arith)
-    (λ c. one_more _ _ _ (omega arith) c.if1.false (loop c.before.before).loop.inv)
-    (λ c. none_bad _ _ (omega arith) c.before.loop.invariant))
+    (λ c. one_more _ _ _ (omega arith) c.if-t-s.false c.loop-left.invariant)
+    (λ c. none_bad _ _ (omega arith) c.loop-left.invariant))

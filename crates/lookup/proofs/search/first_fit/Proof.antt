@@ -29,10 +29,10 @@ first_fit_spec =
     (λ c. search rules)
     (λ c κs. search rules)
     (λ c.
-    let a = c.before.before.before.before.args in
-    c.first_inside.ensures ∙ ap (λ fit. first_in (fits fit a.set) a.list.now) (sym c.before.enum_told.given.1))
+    let a = c.args in
+    c.first_inside.ensures ∙ ap (λ fit. first_in (fits fit a.set) a.list.now) (sym c.in-Inside.is))
     (λ c.
-    let a = c.before.before.before.before.args in
-    c.first-inside2.ensures
-    ∙ of_the_rest a.set a.list.now (omega arith) (λ i. omega (arith, c.before.before.before.shared-slice-known.given i))
-    ∙ ap (λ fit. first_in (fits fit a.set) a.list.now) (sym c.before.enum-told2.given.1)))
+    let a = c.args in
+    c.first_inside-in-Apart.ensures
+    ∙ of_the_rest a.set a.list.now (omega arith) (λ i. omega (arith, c.shared_slice_known-1.given i))
+    ∙ ap (λ fit. first_in (fits fit a.set) a.list.now) (sym c.in-Apart.is)))

@@ -24,11 +24,11 @@ use Rattle.lookup.proofs.search.first_inside.Tie as tie
 from : ℕ → List ℕ → ℕ → Found
 from S list n = first_from (λ C. part C S) n (drop n list)
 
-abbrev invariant-loop : tie.invariant-loop
-invariant-loop set list count left₀ left = (left ≤ count) × (from set list 0 ≡ from set list (2 * (count - left)))
+abbrev invariant-loop-left : tie.invariant-loop-left
+invariant-loop-left set list count left₀ left = (left ≤ count) × (from set list 0 ≡ from set list (2 * (count - left)))
 
-abbrev decreases-loop : tie.decreases-loop
-decreases-loop set list count left₀ left = left
+abbrev decreases-loop-left : tie.decreases-loop-left
+decreases-loop-left set list count left₀ left = left
 
 -- the two bytes at a place as one set, as the code reads them
 listed : List ℕ → ℕ → ℕ
@@ -63,26 +63,23 @@ unfolding from listed first_in
 first_inside_spec =
     tie.close
     (tie.spec
-    invariant-loop
-    decreases-loop
+    invariant-loop-left
+    decreases-loop-left
     (λ c. (omega arith, ap (from c.args.set c.args.list.now) (omega arith)))
     (λ c. omega arith)
     (λ c. omega arith)
     (λ c. omega arith)
     (λ c. omega arith)
-    (λ c. wider (c.shared-slice-known.given _))
+    (λ c. wider (c.shared_slice_known-1.given _))
     (λ c. omega arith)
-    (λ c. wider (c.shared-slice-known2.given _))
-    (λ c. high (c.shared-slice-known2.given _))
-    (λ c. two (c.shared-slice-known2.given _) (c.shared-slice-known2.given _))
+    (λ c. wider (c.shared_slice_known-in-loop-left-1.given _))
+    (λ c. high (c.shared_slice_known-in-loop-left-1.given _))
+    (λ c. two (c.shared_slice_known-in-loop-left-1.given _) (c.shared_slice_known-in-loop-left-1.given _))
     (λ c.
-    let l = c.before.before.before.before in
-    sym (l.loop.invariant.1 ∙ stops l.before.args.set l.before.args.list.now (2 * (length l.before.args.list.now / 2 - l.loop.left)) (omega arith) c.if1.true))
+    sym (c.loop-left.invariant.1 ∙ stops c.args.set c.args.list.now (2 * (length c.args.list.now / 2 - c.loop-left.left)) (omega arith) c.if-listed-set.true))
     (λ c. omega arith)
     (λ c. omega arith)
     (λ c.
-    let l = c.before.before.before.before in
-    (omega arith, l.loop.invariant.1 ∙ goes_on l.before.args.set l.before.args.list.now _ (omega arith) _ (omega arith) c.if1.false))
+    (omega arith, c.loop-left.invariant.1 ∙ goes_on c.args.set c.args.list.now _ (omega arith) _ (omega arith) c.if-listed-set.false))
     (λ c.
-    let l = c.before in
-    sym (l.loop.invariant.1 ∙ first_end _ l.before.args.list.now (2 * (length l.before.args.list.now / 2 - l.loop.left)) (omega arith))))
+    sym (c.loop-left.invariant.1 ∙ first_end _ c.args.list.now (2 * (length c.args.list.now / 2 - c.loop-left.left)) (omega arith))))

@@ -27,8 +27,8 @@ look_up_spec =
     (λ c κs. search rules)
     (λ c. search rules)
     (λ c. search rules)
-    (λ c. sym (ap₂ said_by (sym c.before.before.before.before.before.before.first_fit.ensures ∙ c.before.before.before.before.enum_told.given.1) (sym c.before.before.before.first-fit2.ensures ∙ c.before.place.given.1)))
-    (λ c. sym (ap₂ said_by (sym c.before.before.before.before.before.first_fit.ensures ∙ c.before.before.before.enum_told.given.1) (sym c.before.before.first-fit2.ensures ∙ c.enum-told2.given.1)))
+    (λ c. sym (ap₂ said_by (sym c.first_fit-core.ensures ∙ c.in_default.is) (sym c.first_fit.ensures ∙ c.in-At-first_fit.is)))
+    (λ c. sym (ap₂ said_by (sym c.first_fit-core.ensures ∙ c.in_default.is) (sym c.first_fit.ensures ∙ c.in-Nowhere.is)))
     (λ c.
-    let a = c.before.before.before.before.before.before.args in
-    sym (stopped a.set a.cores.now a.cuts.now _ (sym c.before.before.before.first_fit.ensures ∙ c.before.core.given.1))))
+    let a = c.args in
+    sym (stopped a.set a.cores.now a.cuts.now _ (sym c.first_fit-core.ensures ∙ c.in-At.is))))

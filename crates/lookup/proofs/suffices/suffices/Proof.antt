@@ -10,7 +10,7 @@ unfolding suffices_answer odd_count
 suffices_spec =
     tie.close
     (tie.spec
-    (λ c. rw (eq-eqb _ _ c.if1.true))
-    (λ c. rw (ne_eqb _ _ c.before.if1.false, eq-eqb _ _ c.if2.true))
+    (λ c. rw (eq-eqb _ _ c.if-cores-eq1.true))
+    (λ c. rw (ne_eqb _ _ c.if-cores-eq1.false, eq-eqb _ _ c.if-cuts-eq1.true))
     (λ c κs. search rules)
-    (λ c. rw (ne_eqb _ _ c.before.before.if1.false, ne_eqb _ _ c.before.if2.false) c.look_up.ensures))
+    (λ c. rw (ne_eqb _ _ c.if-cores-eq1.false, ne_eqb _ _ c.if-cuts-eq1.false) c.look_up.ensures))

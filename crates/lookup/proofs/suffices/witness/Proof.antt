@@ -50,28 +50,24 @@ witness_spec =
     (λ c. search rules)
     (λ c. search rules)
     (λ c.
-    let asked = c.before.before.before.before.before in
-    let a = asked.before.before.before.args in
-    let said = sym asked.suffices.ensures ∙ c.before.before.before.answer.given.1 in (
-      c.front.ensures.0 ∙ ap (take 2) c.before.rest.ensures.0 ∙ part_told a.set a.cores.now a.cuts.now _ said,
-      c.front.ensures.1 ∙ c.before.rest.ensures.1 ∙ inside_at a.set a.cores.now a.cuts.now _ said a.cores.ref_ptr
+    let a = c.args in
+    let said = sym c.suffices-answer.ensures ∙ c.in-CoreInside.is in (
+      c.front.ensures.0 ∙ ap (take 2) c.rest.ensures.0 ∙ part_told a.set a.cores.now a.cuts.now _ said,
+      c.front.ensures.1 ∙ c.rest.ensures.1 ∙ inside_at a.set a.cores.now a.cuts.now _ said a.cores.ref_ptr
           ∙ address_told a.set a.cores.now a.cuts.now _ said a.cores.ref_ptr a.cuts.ref_ptr,
     ))
     (λ c.
-    let asked = c.before.before.before.before.before in
-    let a = asked.before.before.before.args in
-    let said = sym asked.suffices.ensures ∙ c.before.before.before.answer2.given.1 in (
-      c.front2.ensures.0 ∙ ap (take 2) c.before.rest2.ensures.0 ∙ part_told a.set a.cores.now a.cuts.now _ said,
-      c.front2.ensures.1 ∙ c.before.rest2.ensures.1 ∙ apart_at a.set a.cores.now a.cuts.now _ said a.cuts.ref_ptr
+    let a = c.args in
+    let said = sym c.suffices-answer.ensures ∙ c.in-CutApart.is in (
+      c.front-in-CutApart.ensures.0 ∙ ap (take 2) c.rest-in-CutApart.ensures.0 ∙ part_told a.set a.cores.now a.cuts.now _ said,
+      c.front-in-CutApart.ensures.1 ∙ c.rest-in-CutApart.ensures.1 ∙ apart_at a.set a.cores.now a.cuts.now _ said a.cuts.ref_ptr
           ∙ address_told a.set a.cores.now a.cuts.now _ said a.cores.ref_ptr a.cuts.ref_ptr,
     ))
     (λ c.
-    let asked = c.before.before.before in
-    let a = asked.before.before.before.args in
-    let said = sym asked.suffices.ensures ∙ c.before.enum_told.given.1 in
+    let a = c.args in
+    let said = sym c.suffices-answer.ensures ∙ c.in-Refused.is in
     (part_told a.set a.cores.now a.cuts.now _ said, address_told a.set a.cores.now a.cuts.now _ said a.cores.ref_ptr a.cuts.ref_ptr))
     (λ c.
-    let asked = c.before.before.before in
-    let a = asked.before.before.before.args in
-    let said = sym asked.suffices.ensures ∙ c.before.enum-told2.given.1 in
+    let a = c.args in
+    let said = sym c.suffices-answer.ensures ∙ c.in-Unlisted.is in
     (part_told a.set a.cores.now a.cuts.now _ said, address_told a.set a.cores.now a.cuts.now _ said a.cores.ref_ptr a.cuts.ref_ptr)))

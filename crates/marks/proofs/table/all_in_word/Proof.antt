@@ -39,11 +39,11 @@ all_in_word_spec =
     tie.close
     (tie.spec
     (λ c κs. search rules)
-    (λ c. omega (arith, c.set_count.ensures, few c.before.if1.true))
-    (λ c. omega (arith, shifted c.set_count.ensures c.before.if1.true, pow_pos c.set_count.result))
+    (λ c. omega (arith, c.set_count.ensures, few c.if-rules-lt6.true))
+    (λ c. omega (arith, shifted c.set_count.ensures c.if-rules-lt6.true, pow_pos c.set_count.result))
     (λ c.
     let e = c.set_count.ensures in
     let n : ℕ = c.set_count.result in
-    ap (λ (x : ℕ). x - 1) (shifted e c.before.if1.true) ∙ first_bits n (omega (arith, e, few c.before.if1.true))
+    ap (λ (x : ℕ). x - 1) (shifted e c.if-rules-lt6.true) ∙ first_bits n (omega (arith, e, few c.if-rules-lt6.true))
     ∙ ap (λ (k : ℕ). set_of 64 (λ t. ltb t k)) e)
-    (λ c. all_bits _ (many (omega (arith, c.if1.false)))))
+    (λ c. all_bits _ (many (omega (arith, c.if-rules-lt6.false)))))

@@ -79,27 +79,27 @@ module _ (high bits : ℕ) (before table : List ℕ) (w : ℕ) (m : Clearing hig
       let visited : ltb (T / 64) w ≡ true = lt-ltb (T / 64) w (omega (arith, m.cleared.size)) in
       rw (visited, said, has_set_of 64 (λ t. part (S % 64) t) (T % 64) (omega arith), e) (sym (part_split 6 S T)))
 
-abbrev invariant-loop : tie.invariant-loop
-invariant-loop table₀ s high bits w₀ table w = Clearing high bits table₀ table w
+abbrev invariant-loop-w : tie.invariant-loop-w
+invariant-loop-w table₀ s high bits w₀ table w = Clearing high bits table₀ table w
 
-abbrev decreases-loop : tie.decreases-loop
-decreases-loop table₀ s high bits w₀ table w = length table - w
+abbrev decreases-loop-w : tie.decreases-loop-w
+decreases-loop-w table₀ s high bits w₀ table w = length table - w
 
 pub clear_above_spec : {M : Type 1} → statement M
 clear_above_spec =
     tie.close
     (tie.spec
-    invariant-loop
-    decreases-loop
+    invariant-loop-w
+    decreases-loop-w
     (λ c. search rules)
     (λ c κs. omega arith)
-    (λ c. start _ _ _ (λ w. omega (arith, c.before.before.slice-known.given w)) (rw c.above.ensures (set_of_lt 64 _)))
+    (λ c. start _ _ _ (λ w. omega (arith, c.slice_known-1.given w)) (rw c.above-bits.ensures (set_of_lt 64 _)))
     (λ c. omega arith)
     (λ c. omega arith)
     (λ c. omega arith)
     (λ c. omega arith)
     (λ c. omega arith)
-    (λ c. simp length-set (omega (arith, or_le (c.before.before.loop.w + 1) (c.before.before.before.before.before.before.args.set.0 / 64))))
-    (λ c. next _ _ _ _ _ c.before.before.loop.invariant c.before.loop-test.true)
-    (λ c. c.before.loop.invariant.cleared.size)
-    (λ c. all _ _ _ _ _ c.before.loop.invariant c.before.before.before.before.before.args.set.0 refl c.before.before.above.ensures c.loop-test.false))
+    (λ c. simp length-set (omega (arith, or_le (c.loop-w.w + 1) (c.args.set.0 / 64))))
+    (λ c. next _ _ _ _ _ c.loop-w.invariant c.loop-w-test.true)
+    (λ c. c.loop-w.invariant.cleared.size)
+    (λ c. all _ _ _ _ _ c.loop-w.invariant c.args.set.0 refl c.above-bits.ensures c.loop-w-test.false))

@@ -89,29 +89,29 @@ module _ (high bits : ℕ) (before table : List ℕ) (w : ℕ) (m : Clearing hig
       (λ q. (passed_iff high w u).1 (omega (arith, n), (part_iff u high).0 q))))
       (λ T l. rw (said, has_set_of 64 (λ t. part t (S % 64)) (T % 64) (omega arith), e) (sym (part_split 6 T S)))
 
-abbrev invariant-loop : tie.invariant-loop
-invariant-loop table₀ s high bits w₀ table w = Clearing high bits table₀ table w
+abbrev invariant-loop-w : tie.invariant-loop-w
+invariant-loop-w table₀ s high bits w₀ table w = Clearing high bits table₀ table w
 
-abbrev decreases-loop : tie.decreases-loop
-decreases-loop table₀ s high bits w₀ table w = w
+abbrev decreases-loop-w : tie.decreases-loop-w
+decreases-loop-w table₀ s high bits w₀ table w = w
 
 pub clear_below_spec : {M : Type 1} → statement M
 clear_below_spec =
     tie.close
     (tie.spec
-    invariant-loop
-    decreases-loop
+    invariant-loop-w
+    decreases-loop-w
     (λ c. search rules)
     (λ c κs. omega arith)
-    (λ c. start _ _ _ (λ w. omega (arith, c.before.before.slice-known.given w)) (omega (arith, c.before.before.before.requires)) (rw c.below.ensures (set_of_lt 64 _)))
-    (λ c. omega (arith, within _ _ _ _ _ c.before.loop.invariant))
-    (λ c. omega (arith, within _ _ _ _ _ c.before.before.loop.invariant))
-    (λ c. omega (arith, within _ _ _ _ _ c.before.before.loop.invariant))
-    (λ c. omega (arith, within _ _ _ _ _ c.before.before.loop.invariant))
-    (λ c. omega (arith, c.before.loop-test.true))
-    (λ c. omega (arith, c.before.loop-test.true, and_le_l (c.before.before.loop.w - 1) (c.before.before.before.before.before.before.args.set.0 / 64)))
-    (λ c. next _ _ _ _ _ c.before.before.loop.invariant c.before.loop-test.true)
-    (λ c. omega (arith, within _ _ _ _ _ c.before.before.loop.invariant))
-    (λ c. omega (arith, within _ _ _ _ _ c.before.before.loop.invariant))
-    (λ c. simp length-set c.before.before.loop.invariant.cleared.size)
-    (λ c. all _ _ _ _ _ c.before.before.loop.invariant c.before.before.before.before.before.before.args.set.0 refl c.before.before.before.below.ensures c.before.loop-test.false))
+    (λ c. start _ _ _ (λ w. omega (arith, c.slice_known-1.given w)) (omega (arith, c.requires)) (rw c.below-bits.ensures (set_of_lt 64 _)))
+    (λ c. omega (arith, within _ _ _ _ _ c.loop-w.invariant))
+    (λ c. omega (arith, within _ _ _ _ _ c.loop-w.invariant))
+    (λ c. omega (arith, within _ _ _ _ _ c.loop-w.invariant))
+    (λ c. omega (arith, within _ _ _ _ _ c.loop-w.invariant))
+    (λ c. omega (arith, c.loop-w-test.true))
+    (λ c. omega (arith, c.loop-w-test.true, and_le_l (c.loop-w.w - 1) (c.args.set.0 / 64)))
+    (λ c. next _ _ _ _ _ c.loop-w.invariant c.loop-w-test.true)
+    (λ c. omega (arith, within _ _ _ _ _ c.loop-w.invariant))
+    (λ c. omega (arith, within _ _ _ _ _ c.loop-w.invariant))
+    (λ c. simp length-set c.loop-w.invariant.cleared.size)
+    (λ c. all _ _ _ _ _ c.loop-w.invariant c.args.set.0 refl c.below-bits.ensures c.loop-w-test.false))

@@ -36,23 +36,23 @@ module _ {word : ℕ} {before table : List ℕ} {w : ℕ} (f : Filled word befor
       ∙ append-nil (tabulate (length before) (λ _. word))
       ∙ sym (all_alike (length before) word (λ _. word) (λ _ _. refl))
 
-abbrev invariant-loop : tie.invariant-loop
-invariant-loop table₀ word w₀ table w = Filled word table₀ table w
+abbrev invariant-loop-w : tie.invariant-loop-w
+invariant-loop-w table₀ word w₀ table w = Filled word table₀ table w
 
-abbrev decreases-loop : tie.decreases-loop
-decreases-loop table₀ word w₀ table w = length table - w
+abbrev decreases-loop-w : tie.decreases-loop-w
+decreases-loop-w table₀ word w₀ table w = length table - w
 
 pub fill_spec : {M : Type 1} → statement M
 fill_spec =
     tie.close
     (tie.spec
-    invariant-loop
-    decreases-loop
+    invariant-loop-w
+    decreases-loop-w
     (λ c. none_filled _ _)
     (λ c. omega arith)
     (λ c. omega arith)
     (λ c. omega arith)
     (λ c. simp length-set (omega arith))
-    (λ c. next c.before.loop.invariant c.loop-test.true)
-    (λ c. c.before.loop.invariant.size)
-    (λ c. all c.before.loop.invariant c.loop-test.false))
+    (λ c. next c.loop-w.invariant c.loop-w-test.true)
+    (λ c. c.loop-w.invariant.size)
+    (λ c. all c.loop-w.invariant c.loop-w-test.false))

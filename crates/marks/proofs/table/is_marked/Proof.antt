@@ -13,7 +13,7 @@ is_marked_spec =
     tie.close
     (tie.spec
     (λ c. search rules)
-    (λ c. omega (arith, c.before.requires))
-    (λ c. omega (arith, c.before.before.requires))
+    (λ c. omega (arith, c.requires))
+    (λ c. omega (arith, c.requires))
     (λ c. omega arith)
     (λ c. refl))

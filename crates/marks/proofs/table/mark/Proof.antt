@@ -50,10 +50,10 @@ mark_spec =
     tie.close
     (tie.spec
     (λ c. search rules)
-    (λ c. omega (arith, c.before.requires))
-    (λ c. omega (arith, c.before.before.requires))
+    (λ c. omega (arith, c.requires))
+    (λ c. omega (arith, c.requires))
     (λ c. omega arith)
-    (λ c. omega (arith, c.before.before.requires))
-    (λ c. omega (arith, c.before.before.requires))
+    (λ c. omega (arith, c.requires))
+    (λ c. omega (arith, c.requires))
     (λ c. search rules)
-    (λ c. one_marked _ _ _ c.before.before.requires (shl_exact {a = 1} 1 _ 64 (omega arith) (omega arith) ∙ omega arith) (λ w. omega (arith, c.slice-known.given w))))
+    (λ c. one_marked _ _ _ c.requires (shl_exact {a = 1} 1 _ 64 (omega arith) (omega arith) ∙ omega arith) (λ w. omega (arith, c.slice_known-1.given w))))

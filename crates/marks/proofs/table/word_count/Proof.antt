@@ -11,5 +11,5 @@ word_count_spec =
     tie.close
     (tie.spec
     (λ c κs. c.requires)
-    (λ c. omega (arith, c.set_count.ensures, pow_mono c.before.requires))
+    (λ c. omega (arith, c.set_count.ensures, pow_mono c.requires))
     (λ c. ap (λ (n : ℕ). (n + 63) / 64) c.set_count.ensures))

@@ -53,37 +53,30 @@ module _ (h : ℕ → Bool) (order : List ℕ) (first : OneCore) where
       let end : length order - untried ≡ length order = omega arith in
       ap (after_order h found) (sym (ap (λ (n : ℕ). drop n order) end ∙ drop-length order)) ∙ f.rest
 
-abbrev invariant-loop : tie.invariant-loop
-invariant-loop masks t order found₀ untried₀ found untried = Tried (judge_by masks t) order found₀ untried found
+abbrev invariant-loop-untried : tie.invariant-loop-untried
+invariant-loop-untried masks t order found₀ untried₀ found untried = Tried (judge_by masks t) order found₀ untried found
 
-abbrev decreases-loop : tie.decreases-loop
-decreases-loop masks t order found₀ untried₀ found untried = untried
-
--- where a rule is tried, and the function's start
-abbrev start : tie.In-loop invariant-loop decreases-loop → tie.Start invariant-loop decreases-loop
-start c = c.before.before.before.before
+abbrev decreases-loop-untried : tie.decreases-loop-untried
+decreases-loop-untried masks t order found₀ untried₀ found untried = untried
 
 pub drop_all_spec : {M : Type 1} → statement M
 drop_all_spec =
     tie.close
     (tie.spec
-    invariant-loop
-    decreases-loop
+    invariant-loop-untried
+    decreases-loop-untried
     (λ c. none_tried _ _ _)
-    (λ c. omega (arith, c.before.loop.invariant.within))
-    (λ c κs. omega (arith, c.before.loop.invariant.within))
+    (λ c. omega (arith, c.loop-untried.invariant.within))
+    (λ c κs. omega (arith, c.loop-untried.invariant.within))
     (λ c. search rules)
     (λ c κs.
-    let l = c.before in
-    rw c.place_at.ensures ((start l).requires.below _ (omega (arith, l.before.loop.invariant.within))))
-    (λ c κs. (start c.before.before).pre.room)
+    rw c.place_at-rule.ensures (c.requires.below _ (omega (arith, c.loop-untried.invariant.within))))
+    (λ c κs. c.requires.room)
     (λ c κs.
-    let l = c.before.before.before in
-    omega (arith, l.before.loop.invariant.counted, (start l).requires.few))
+    omega (arith, c.loop-untried.invariant.counted, c.requires.few))
     (λ c. omega arith)
     (λ c. omega arith)
     (λ c.
-    let l = c.before.before.before.before in
-    let rest = c.before.before.without.ensures ∙ ap (without _) c.before.before.before.place_at.ensures in
-    one_tried _ _ _ l.before.loop.untried (omega arith) (after_rule_lem _ l.before.loop.found _ rest c.before.is_held_lem.ensures c.judged.ensures) l.before.loop.invariant)
-    (λ c. all_tried _ _ _ (omega arith) c.before.loop.invariant))
+    let rest = c.without-rest.ensures ∙ ap (without _) c.place_at-rule.ensures in
+    one_tried _ _ _ c.loop-untried.untried (omega arith) (after_rule_lem _ c.loop-untried.found _ rest c.is_held-holds.ensures c.judged-found.ensures) c.loop-untried.invariant)
+    (λ c. all_tried _ _ _ (omega arith) c.loop-untried.invariant))

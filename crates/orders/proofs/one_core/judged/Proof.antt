@@ -20,10 +20,10 @@ pub judged_spec : {M : Type 1} → statement M
 judged_spec =
     tie.close
     (tie.spec
-    (λ c. omega (arith, c.before.requires))
+    (λ c. omega (arith, c.requires))
     (λ c.
-    let a = c.before.args in
+    let a = c.args in
     ⊎_elim
-    (λ w. found_by a.found a.set.0 a.holds true w.0.taken w.1)
-    (λ w. found_by a.found a.set.0 a.holds false w.0.left w.1)
-    c.if1.branch))
+    (λ w. found_by a.found a.set.0 a.holds true w.if-holds.true w.result-is)
+    (λ w. found_by a.found a.set.0 a.holds false w.if-holds.false w.result-is)
+    c.if-holds.branch-raw))

@@ -31,10 +31,6 @@ module _ (R : ℕ) (h : ℕ → Bool) (order : List ℕ) {all empty : ℕ} {hold
   unfolding one_core_of
   by_verdict b f = ap (λ d. cond d (after_order h first order) first) (sym f) ∙ ap (λ c. cond c.holds (after_order h c order) c) first_is
 
--- where the full set is judged, and the function's start
-abbrev start : tie.After-judged → tie.Start
-start c = c.before.before.before.before.before.before
-
 pub one_core_spec : {M : Type 1} → statement M
 one_core_spec =
     tie.close
@@ -44,11 +40,9 @@ one_core_spec =
     (λ c κs. search rules)
     (λ c κs. search rules)
     (λ c κs.
-    let j = c.before in
-    let v = j.before in
-    let p = (start j).requires in
-    let one = made_one (start j).args.t.rules (judge_by (start j).args.masks.now (start j).args.t) (start j).args.order.now
-    v.before.before.full.ensures v.before.empty.ensures v.is_held_lem.ensures j.judged.ensures
+    let p = c.requires in
+    let one = made_one c.args.t.rules (judge_by c.args.masks.now c.args.t) c.args.order.now
+    c.full-all.ensures c.empty.ensures c.is_held-holds.ensures c.judged-first.ensures
     in
     record {
       room = p.room;
@@ -56,11 +50,7 @@ one_core_spec =
       few = omega (arith, one, p.ordered.size, p.few);
     })
     (λ c.
-    let j = c.before.before in
-    let v = j.before in
     c.drop_all.ensures
-    ∙ by_verdict _ _ _ v.before.before.full.ensures v.before.empty.ensures v.is_held_lem.ensures j.judged.ensures true c.before.if1.true)
+    ∙ by_verdict _ _ _ c.full-all.ensures c.empty.ensures c.is_held-holds.ensures c.judged-first.ensures true c.if-first.true)
     (λ c.
-    let j = c.before in
-    let v = j.before in
-    by_verdict _ _ _ v.before.before.full.ensures v.before.empty.ensures v.is_held_lem.ensures j.judged.ensures false c.if1.false))
+    by_verdict _ _ _ c.full-all.ensures c.empty.ensures c.is_held-holds.ensures c.judged-first.ensures false c.if-first.false))

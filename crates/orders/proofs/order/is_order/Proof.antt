@@ -79,41 +79,29 @@ module _ (R : ℕ) (order : List ℕ) where
   other_size : ¬ (length order ≡ R) → false ≡ is_order R order
   other_size n = sym (false_if (is_order R order) (λ t. n ((is_order_iff R order).0 t).size))
 
-abbrev invariant-loop : tie.invariant-loop
-invariant-loop order rules seen₀ k₀ seen k = Seen rules order k seen.0
+abbrev invariant-loop-k : tie.invariant-loop-k
+invariant-loop-k order rules seen₀ k₀ seen k = Seen rules order k seen.0
 
-abbrev decreases-loop : tie.decreases-loop
-decreases-loop order rules seen₀ k₀ seen k = rules - k
-
--- where a byte is read; where there are as many bytes as rules; the function's start
-abbrev sized : tie.In-loop invariant-loop decreases-loop → tie.Else1 invariant-loop decreases-loop
-sized c = c.before.before.before
-
-abbrev start : tie.Else1 invariant-loop decreases-loop → tie.Start invariant-loop decreases-loop
-start c = c.before.before
-
-abbrev size : (c : tie.Else1 invariant-loop decreases-loop) → length (start c).args.order.now ≡ (start c).args.rules
-size c = omega (arith, c.if1.false)
+abbrev decreases-loop-k : tie.decreases-loop-k
+decreases-loop-k order rules seen₀ k₀ seen k = rules - k
 
 pub is_order_spec : {M : Type 1} → statement M
 is_order_spec =
     tie.close
     (tie.spec
-    invariant-loop
-    decreases-loop
-    (λ c. other_size _ _ c.if1.true)
+    invariant-loop-k
+    decreases-loop-k
+    (λ c. other_size _ _ c.if-order-rules.true)
     (λ c κs. tt)
-    (λ c. none_seen _ _ c.empty.ensures)
-    (λ c. omega (arith, (sized c.before).if1.left))
-    (λ c. omega (arith, c.shared-slice-known2.given c.before.before.loop.k))
-    (λ c. beyond _ _ (size (sized c.before.before)) _ (omega arith) c.if2.true)
-    (λ c κs. omega (arith, c.if2.false, (start (sized c.before.before)).pre))
+    (λ c. none_seen _ _ c.empty-seen.ensures)
+    (λ c. omega (arith, c.if-order-rules.false))
+    (λ c. omega (arith, c.shared_slice_known-in-loop-k-1.given c.loop-k.k))
+    (λ c. beyond _ _ c.if-order-rules.false _ (omega arith) c.if-rules-place.true)
+    (λ c κs. omega (arith, c.if-rules-place.false, c.requires))
     (λ c. omega arith)
     (λ c. omega arith)
     (λ c.
-    let l = c.before.before.before in
-    one_seen _ _ l.before.loop.k (omega (arith, size (sized l))) (omega (arith, c.before.if2.false)) c.with.ensures l.before.loop.invariant)
-    (λ c κs. c.before.before.before.before.before.requires)
+    one_seen _ _ c.loop-k.k (omega (arith, c.if-order-rules.false)) (omega (arith, c.if-rules-place.false)) c.with-seen.ensures c.loop-k.invariant)
+    (λ c κs. c.requires)
     (λ c.
-    let l = c.before.before.before in
-    all_seen _ _ (size l.before.before.before) (omega arith) c.before.before.full.ensures l.before.loop.invariant))
+    all_seen _ _ c.if-order-rules.false (omega arith) c.full.ensures c.loop-k.invariant))

@@ -16,5 +16,5 @@ pack_spec =
     (λ c. search rules)
     (λ c. search rules)
     (λ c. search rules)
-    (λ c. rw c.if1.true (omega arith))
-    (λ c. rw c.if1.false (omega arith)))
+    (λ c. rw c.if-holds.true (omega arith))
+    (λ c. rw c.if-holds.false (omega arith)))

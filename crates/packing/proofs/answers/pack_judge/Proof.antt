@@ -12,11 +12,11 @@ pack_judge_spec =
     tie.close
     (tie.spec
     (λ c. search rules)
-    (λ c κs. rw c.before.a.given.1 at c.before.before.before.requires)
+    (λ c κs. rw c.in-Refused.is at c.requires)
     (λ c. search rules)
     (λ c κs. search rules)
     (λ c. search rules)
-    (λ c κs. rw c.before.a2.given.1 at c.before.before.before.requires)
-    (λ c. c.pack.ensures ∙ ap (λ a. packed (judge_parts a)) (sym c.before.before.a.given.1))
-    (λ c. c.pack2.ensures ∙ ap (λ a. packed (judge_parts a)) (sym c.before.enum_told.given.1))
-    (λ c. c.pack3.ensures ∙ ap (λ a. packed (judge_parts a)) (sym c.before.before.a2.given.1)))
+    (λ c κs. rw c.in-Broken.is at c.requires)
+    (λ c. c.pack.ensures ∙ ap (λ a. packed (judge_parts a)) (sym c.in-Refused.is))
+    (λ c. c.pack-in-Holds.ensures ∙ ap (λ a. packed (judge_parts a)) (sym c.in-Holds.is))
+    (λ c. c.pack-in-Broken.ensures ∙ ap (λ a. packed (judge_parts a)) (sym c.in-Broken.is)))

@@ -12,8 +12,8 @@ pack_list_spec =
     tie.close
     (tie.spec
     (λ c. search rules)
-    (λ c κs. rw c.before.a.given.1 at c.before.before.before.requires)
+    (λ c κs. rw c.in-Refused.is at c.requires)
     (λ c. search rules)
-    (λ c κs. rw c.before.a2.given.1 at c.before.before.before.requires)
-    (λ c. c.pack.ensures ∙ ap (λ a. packed (list_parts a)) (sym c.before.before.a.given.1))
-    (λ c. c.pack2.ensures ∙ ap (λ a. packed (list_parts a)) (sym c.before.before.a2.given.1)))
+    (λ c κs. rw c.in-Count.is at c.requires)
+    (λ c. c.pack.ensures ∙ ap (λ a. packed (list_parts a)) (sym c.in-Refused.is))
+    (λ c. c.pack-in-Count.ensures ∙ ap (λ a. packed (list_parts a)) (sym c.in-Count.is)))

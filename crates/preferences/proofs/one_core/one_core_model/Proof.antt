@@ -4,7 +4,6 @@ use Prim.Native.Nat.{ℕ}
 use mathlib.Core.Path.{◌≡◌, sym, ap, ap₂, ◌∙◌}
 use mathlib.Core.Bool.{Bool, true, false, cond, true≢false}
 use mathlib.Core.List.{List}
-use borrow.Author.Tests.{not-true, not-false}
 use Rattle.sets.specs.declared.one_core.OneCore.{OneCore}
 use Rattle.sets.specs.Orders.{IsOrder, is_order}
 use Rattle.sets.specs.OneCore.{one_core_of}
@@ -14,10 +13,10 @@ use Rattle.models.specs.Written.{described}
 use Rattle.semantics.specs.Meaning.{judge}
 use Rattle.calls.specs.AsRead.{IsRead}
 use Rattle.calls.specs.Answers.{judge_in}
-use Rattle.calls.specs.Laws.Answers.{few, rules_le, rules_read_lem, read_model}
+use Rattle.calls.proofs.Laws.Answers.{few, rules_le, rules_read_lem, read_model_lem}
 use Rattle.preferences.specs.declared.answer.OneCoreAnswer.TheVariants.{CoreFound, NoCore, Refused}
 use Rattle.preferences.specs.Answer.{one_core_in, found_answer, one_core_answer}
-use Rattle.preferences.specs.Laws.Answer.{one_core_by_order, one_core_given}
+use Rattle.preferences.proofs.Laws.Answer.{one_core_by_order, one_core_given}
 use Rattle.preferences.proofs.one_core.one_core_model.Statement.{statement}
 use Rattle.preferences.proofs.one_core.one_core_model.Tie as tie
 
@@ -36,23 +35,17 @@ module _ {text : List ℕ} {m : Model} (r : IsRead text m) (order : List ℕ) {b
   unfolding one_core_in judge_in found_answer
   given t {c} e held h =
       ap (λ d. cond d (CoreFound c.set c.judgements) (NoCore c.judgements)) (sym h)
-      ∙ ap found_answer (e ∙ ap₂ (λ (R : ℕ) D. one_core_of R (judge D) order) (rules_read_lem r) (read_model r))
+      ∙ ap found_answer (e ∙ ap₂ (λ (R : ℕ) D. one_core_of R (judge D) order) (rules_read_lem r) (read_model_lem r))
       ∙ one_core_given text order r.outcome (rw (rules_read_lem r) at (ordered t))
-
--- where the order is asked, and the beginning
-abbrev start : tie.After-is_order → tie.Start
-start c = c.before.before.before
 
 pub one_core_model_spec : {M : Type 1} → statement M
 one_core_model_spec =
     tie.close
     (tie.spec
-    (λ c κs. rules_le c.before.before.requires)
-    (λ c. let i = c.before in not_ordered (start i).requires _ i.is_order.ensures (not-true _ c.if1.true))
-    (λ c κs. let i = c.before in (few (start i).requires, ordered (start i).requires _ i.is_order.ensures (not-false _ c.if1.false)))
+    (λ c κs. rules_le c.requires)
+    (λ c. let i = c in not_ordered i.requires _ i.is_order.ensures c.if-not-is_order.true)
+    (λ c κs. let i = c in (few i.requires, ordered i.requires _ i.is_order.ensures c.if-not-is_order.false))
     (λ c.
-    let e = c.before.before in
-    given (start e.before).requires _ e.before.is_order.ensures (not-false _ e.if1.false) c.before.one_core.ensures true c.if2.true)
+    given c.requires _ c.is_order.ensures c.if-not-is_order.false c.one_core-found.ensures true c.if-found.true)
     (λ c.
-    let e = c.before.before in
-    given (start e.before).requires _ e.before.is_order.ensures (not-false _ e.if1.false) c.before.one_core.ensures false c.if2.false))
+    given c.requires _ c.is_order.ensures c.if-not-is_order.false c.one_core-found.ensures false c.if-found.false))

@@ -20,5 +20,5 @@ name_of_spec =
     (λ c κs. search rules)
     (λ c κs. search rules)
     (λ c.
-    let a = c.before.before.before.args in
-    c.part.ensures.0 ∙ ap (λ (n : ℕ). take (n - get_or a.t2 a.i 0) (drop (get_or a.t2 a.i 0) a.text.now)) c.before.one_less.ensures))
+    let a = c.args in
+    c.part.ensures.0 ∙ ap (λ (n : ℕ). take (n - get_or a.names a.i 0) (drop (get_or a.names a.i 0) a.text.now)) c.one_less-to.ensures))

@@ -10,7 +10,7 @@ use borrow.Author.Tests.{lt-ltb, le-ltb}
 use lib.ListN.{length, take, drop}
 use Rattle.lines.specs.Lines.{fault_of}
 use Rattle.rule_lines.specs.RuleLines.{parts_fault}
-use Rattle.rule_lines.specs.Laws.Numbers.{parts_numbers}
+use Rattle.rule_lines.proofs.Laws.Numbers.{parts_numbers}
 use Rattle.rule_lines.proofs.names.parts_fault.Statement.{statement}
 use Rattle.rule_lines.proofs.names.parts_fault.Tie as tie
 
@@ -35,12 +35,9 @@ parts_fault_spec =
     (tie.spec
     (λ c κs. search rules)
     (λ c κs. search rules)
-    (λ c. refused _ _ _ c.before.before.front.ensures.0 c.before.fault_in.ensures c.if1.true)
-    (λ c. let f = c.before.before in alone _ _ _ f.before.front.ensures.0 f.fault_in.ensures c.before.if1.false c.if2.true)
+    (λ c. refused _ _ _ c.front.ensures.0 c.fault_in-number.ensures c.if-number-ne0.true)
+    (λ c. alone _ _ _ c.front.ensures.0 c.fault_in-number.ensures c.if-number-ne0.false c.if-e-step.true)
     (λ c. search rules)
     (λ c κs. search rules)
     (λ c κs. search rules)
-    (λ c.
-    let r = c.before in
-    let f = r.before.before.before in
-    behind _ _ _ f.before.front.ensures.0 f.fault_in.ensures r.before.before.if1.false r.before.if2.false r.rest.ensures.0 c.fault-in2.ensures))
+    (λ c. behind _ _ _ c.front.ensures.0 c.fault_in-number.ensures c.if-number-ne0.false c.if-e-step.false c.rest.ensures.0 c.fault_in.ensures))

@@ -13,5 +13,5 @@ start_from_spec =
     (tie.spec
     (λ c. search rules)
     (λ c. search rules)
-    (λ c. rw (lt-ltb _ _ c.if1.true))
-    (λ c. rw (le-ltb _ _ c.if1.false)))
+    (λ c. rw (lt-ltb _ _ c.if-step-e.true))
+    (λ c. rw (le-ltb _ _ c.if-step-e.false)))

@@ -6,4 +6,4 @@ use Rattle.searches.proofs.breadth_first.reached.Statement.{statement}
 use Rattle.searches.proofs.breadth_first.reached.Tie as tie
 
 pub reached_spec : {M : Type 1} → statement M
-reached_spec = tie.close (tie.spec (λ c κs. search rules) (λ c. stored_reached _ c.before.explore.result c.before.explore.ensures))
+reached_spec = tie.close (tie.spec (λ c κs. search rules) (λ c. stored_reached _ c.explore-x.result c.explore-x.ensures))

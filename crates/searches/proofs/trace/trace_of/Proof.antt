@@ -19,9 +19,9 @@ trace_of_spec =
     (λ c κs. search rules)
     (λ c κs. search rules)
     (λ c.
-    let e = c.before.before.explore in
-    let a = c.before.before.before.before.args in
+    let e = c.explore-x in
+    let a = c.args in
     c.run_at.ensures
     ∙ ap trace_with
-    (ap (λ j. get_or (runs_in e.result) j []) c.before.first_bad.ensures
+    (ap (λ j. get_or (runs_in e.result) j []) c.first_bad.ensures
     ∙ stored_trace (system_by a.masks.now a.t a.set) e.ensures)))

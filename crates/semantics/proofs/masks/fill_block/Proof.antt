@@ -11,7 +11,7 @@ use Rattle.sets.specs.Gathered.{set_of}
 use Rattle.sets.specs.Tabulated.{tabulate}
 use Rattle.sets.specs.Laws.Tabulated.{same_entries}
 use Rattle.semantics.specs.Places.{mask_by, word_table}
-use Rattle.semantics.specs.Laws.Places.{words_mask, length_words}
+use Rattle.semantics.proofs.Laws.Places.{words_mask, length_words}
 use Rattle.semantics.proofs.Filling.{FilledTo, none_filled, part_filled, all_filled}
 use Rattle.semantics.proofs.Fours.{in_four, mask_in_four}
 use Rattle.semantics.proofs.masks.fill_block.Statement.{statement}
@@ -43,52 +43,38 @@ module _ (text steps : List ℕ) (rules s block : ℕ) (words : List ℕ) (e : w
       same_entries n (mask_in words rules) (λ t. mask_by text steps rules s (64 * block + t))
       (λ t l. ap (λ (w : List ℕ). mask_in w rules t) e ∙ words_mask text steps s block rules t (omega arith) few)
 
-abbrev invariant-loop : tie.invariant-loop
-invariant-loop text steps rules s block part₀ words t₀ part t = FilledTo (mask_in words rules) part₀ part t
+abbrev invariant-loop-t : tie.invariant-loop-t
+invariant-loop-t text steps rules s block part₀ words t₀ part t = FilledTo (mask_in words rules) part₀ part t
 
-abbrev decreases-loop : tie.decreases-loop
-decreases-loop text steps rules s block part₀ words t₀ part t = length part - t
-
-abbrev start : tie.After-rule_words invariant-loop decreases-loop → tie.Start invariant-loop decreases-loop
-start p = p.before.before.before
-
--- The turn in which the next four masks are stored.
-abbrev turn : tie.After-four_on invariant-loop decreases-loop → tie.At-loop invariant-loop decreases-loop
-turn p = p.before.before.before.before
+abbrev decreases-loop-t : tie.decreases-loop-t
+decreases-loop-t text steps rules s block part₀ words t₀ part t = length part - t
 
 pub fill_block_spec : {M : Type 1} → statement M
 fill_block_spec =
     tie.close
     (tie.spec
-    invariant-loop
-    decreases-loop
-    (λ c κs. c.before.before.requires.entries)
+    invariant-loop-t
+    decreases-loop-t
+    (λ c κs. c.requires.entries)
     (λ c. none_filled _ _)
     (λ c κs.
-    let l = c.before.before in
-    let p = (start l.before).pre in record {
-      entries = record { size = words_long _ _ _ _ _ _ l.before.rule_words.ensures p.entries.few; few = p.entries.few };
-      state = omega (arith, c.before.loop-test.true, l.loop.invariant.kept, p.short);
+    let p = c.requires in record {
+      entries = record { size = words_long _ _ _ _ _ _ c.rule_words-words.ensures p.entries.few; few = p.entries.few };
+      state = omega (arith, c.loop-t-test.true, c.loop-t.invariant.kept, p.short);
     })
     (λ c κs.
-    let l = c.before.before.before in
-    (c.before.before.loop-test.true, omega (arith, l.loop.invariant.kept, (start l.before).pre.short)))
+    (c.loop-t-test.true, omega (arith, c.loop-t.invariant.kept, c.requires.short)))
     (λ c. omega arith)
     (λ c. omega arith)
     (λ c. omega arith)
-    (λ c. omega (arith, c.four_on.ensures))
+    (λ c. omega (arith, c.four_on-to.ensures))
     (λ c κs.
-    let o = c.before in
-    let l = turn o in
-    omega (arith, length-take (o.four_on.result - l.loop.t) (drop l.loop.t l.loop.part), o.four_on.ensures))
+    omega (arith, length-take (c.four_on-to.result - c.loop-t.t) (drop c.loop-t.t c.loop-t.part), c.four_on-to.ensures))
     (λ c. omega arith)
     (λ c.
-    let o = c.before.before.before.before in
-    let l = turn o in
-    four_filled l.before.rule_words.result _ _ _ _ _ l.loop.inv o.before.before.before.loop-test.true o.four_on.ensures _ _
-    (start l.before).pre.entries.few o.before.four_masks.ensures c.before.before.put_four.ensures)
-    (λ c. c.before.loop.invariant.kept)
+    four_filled c.rule_words-words.result _ _ _ _ _ c.loop-t.invariant c.loop-t-test.true c.four_on-to.ensures _ _
+    c.requires.entries.few c.four_masks-four.ensures c.put_four.ensures)
+    (λ c. c.loop-t.invariant.kept)
     (λ c.
-    let w = c.before.before in
-    let p = (start w).requires in
-    all_filled _ _ _ _ c.before.loop.invariant c.loop-test.false ∙ masks_are _ _ _ _ _ _ w.rule_words.ensures p.entries.few _ p.short))
+    let p = c.requires in
+    all_filled _ _ _ _ c.loop-t.invariant c.loop-t-test.false ∙ masks_are _ _ _ _ _ _ c.rule_words-words.ensures p.entries.few _ p.short))

@@ -1,7 +1,7 @@
 -- `semantics::masks::fill_masks` meets its contract. The loop's invariant: after s turns the table has the masks of the first s rows, and
 -- otherwise what was lent. Behind the loop comes the row of the start masks. Assumes nothing.
 use Prim.Native.Nat.{ℕ, ◌+◌, ◌-◌, ◌*◌, ◌<◌, ◌≤◌}
-use mathlib.Core.Path.{◌≡◌, sym, ap, subst, ◌∙◌}
+use mathlib.Core.Path.{◌≡◌, ap, subst, ◌∙◌}
 use mathlib.Core.List.{List}
 use native.Mathlib.Omega.{arith}
 use borrow.Author.Tests.{lt-ltb, le-ltb}
@@ -11,7 +11,7 @@ use Rattle.sets.specs.Tabulated.{tabulate}
 use Rattle.sets.specs.Laws.Tabulated.{same_entries}
 use Rattle.semantics.specs.TablesOf.{rows_of}
 use Rattle.semantics.specs.Places.{mask_by, start_mask_by, mask_row_by}
-use Rattle.semantics.specs.Laws.TablesOf.{length_rows}
+use Rattle.semantics.proofs.Laws.TablesOf.{length_rows}
 use Rattle.semantics.proofs.Filling.{no_rows, one_row}
 use Rattle.semantics.proofs.masks.fill_masks.Statement.{statement}
 use Rattle.semantics.proofs.masks.fill_masks.Tie as tie
@@ -66,55 +66,37 @@ module _ (f : ℕ → ℕ → ℕ) (states : ℕ) (before masks : List ℕ) (s :
   full : states ≤ s → RowsFilled f states before masks states
   full l = subst (RowsFilled f states before masks) (omega (arith, h.within)) h
 
-abbrev invariant-loop : tie.invariant-loop
-invariant-loop text steps starts rules states masks₀ s₀ masks s = RowsFilled (mask_row_by text steps starts rules states) states masks₀ masks s
+abbrev invariant-loop-s : tie.invariant-loop-s
+invariant-loop-s text steps starts rules states masks₀ s₀ masks s = RowsFilled (mask_row_by text steps starts rules states) states masks₀ masks s
 
-abbrev decreases-loop : tie.decreases-loop
-decreases-loop text steps starts rules states masks₀ s₀ masks s = states - s
-
--- The turn in which a row is filled.
-abbrev turn : tie.After-slice-known2 invariant-loop decreases-loop → tie.In-loop invariant-loop decreases-loop
-turn p = p.before.before.before.before
-
-abbrev start : tie.At-loop invariant-loop decreases-loop → tie.Start invariant-loop decreases-loop
-start l = l.before.before.before
-
--- The rows behind the loop.
-filled : (c : tie.After-loop invariant-loop decreases-loop)
-    → let a = (start c.before).args in
-    RowsFilled (mask_row_by a.text.now a.steps.now a.starts.now a.rules a.states) a.states a.masks.now c.before.loop.masks a.states
-filled c = full _ _ _ _ _ c.before.loop.invariant c.loop-test.false
-
--- The loop, seen from where the start masks have come back.
-abbrev ended : tie.After-slice-known3 invariant-loop decreases-loop → tie.After-loop invariant-loop decreases-loop
-ended c = c.before.before.before.before
+abbrev decreases-loop-s : tie.decreases-loop-s
+decreases-loop-s text steps starts rules states masks₀ s₀ masks s = states - s
 
 pub fill_masks_spec : {M : Type 1} → statement M
 fill_masks_spec =
     tie.close
     (tie.spec
-    invariant-loop
-    decreases-loop
-    (λ c. let p = c.before.before.requires in none _ _ _ p.few p.room)
-    (λ c. omega (arith, c.loop-test.true, c.before.loop.invariant.few))
-    (λ c. omega (arith, c.loop-test.true, c.before.loop.invariant.few))
-    (λ c. omega (arith, c.loop-test.true, c.before.loop.invariant.few))
+    invariant-loop-s
+    decreases-loop-s
+    (λ c. let p = c.requires in none _ _ _ p.few p.room)
+    (λ c. omega (arith, c.loop-s-test.true, c.loop-s.invariant.few))
+    (λ c. omega (arith, c.loop-s-test.true, c.loop-s.invariant.few))
+    (λ c. omega (arith, c.loop-s-test.true, c.loop-s.invariant.few))
     (λ c. omega arith)
     (λ c. omega arith)
-    (λ c. omega (arith, room _ _ _ _ _ c.before.loop.invariant))
+    (λ c. omega (arith, room _ _ _ _ _ c.loop-s.invariant))
     (λ c κs.
-    let l = c.before.before in
-    record { entries = (start l).requires.parts.step_entries; short = row_few _ _ _ _ _ l.loop.invariant })
-    (λ c. omega (arith, (turn c).loop-test.true, (turn c).before.loop.invariant.few))
-    (λ c. omega (arith, (turn c).loop-test.true))
-    (λ c. one_more _ _ _ _ _ (turn c).before.loop.invariant _ (turn c).loop-test.true (c.before.before.fill_row.ensures ∙ state_row _ _ _ _ _ _ _ (turn c).loop-test.true))
-    (λ c. omega (arith, c.before.loop.invariant.few))
-    (λ c. omega (arith, c.before.loop.invariant.few))
-    (λ c. omega (arith, c.before.loop.invariant.few))
+    record { entries = c.requires.parts.step_entries; short = row_few _ _ _ _ _ c.loop-s.invariant })
+    (λ c. omega (arith, c.loop-s-test.true, c.loop-s.invariant.few))
+    (λ c. omega (arith, c.loop-s-test.true))
+    (λ c. one_more _ _ _ _ _ c.loop-s.invariant _ c.loop-s-test.true (c.fill_row.ensures ∙ state_row _ _ _ _ _ _ _ c.loop-s-test.true))
+    (λ c. omega (arith, c.loop-s.invariant.few))
+    (λ c. omega (arith, c.loop-s.invariant.few))
+    (λ c. omega (arith, c.loop-s.invariant.few))
     (λ c. omega arith)
     (λ c. omega arith)
-    (λ c. omega (arith, room _ _ _ _ _ (filled c)))
-    (λ c κs. (start c.before.before).pre.parts)
+    (λ c. omega (arith, room _ _ _ _ _ (full _ _ _ _ _ c.loop-s.invariant c.loop-s-test.false)))
+    (λ c κs. c.requires.parts)
     (λ c.
-    ap length (row_added _ _ _ _ _ (filled (ended c)) _ (c.before.before.fill_starts.ensures ∙ start_row _ _ _ _ _ _)) ∙ length_rows _ _ _ _)
-    (λ c. row_added _ _ _ _ _ (filled (ended c)) _ (c.before.before.fill_starts.ensures ∙ start_row _ _ _ _ _ _)))
+    ap length (row_added _ _ _ _ _ (full _ _ _ _ _ c.loop-s.invariant c.loop-s-test.false) _ (c.fill_starts.ensures ∙ start_row _ _ _ _ _ _)) ∙ length_rows _ _ _ _)
+    (λ c. row_added _ _ _ _ _ (full _ _ _ _ _ c.loop-s.invariant c.loop-s-test.false) _ (c.fill_starts.ensures ∙ start_row _ _ _ _ _ _)))

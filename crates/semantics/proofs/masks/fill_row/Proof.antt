@@ -41,33 +41,24 @@ module _ (f : ℕ → ℕ) (row first second : List ℕ) (more : 64 < length row
       rw (high, left, rest_is, mid, none, take_at first (drop 64 row) 64 first_long, first_is, append-nil)
       (sym (in_parts 64 n f) ∙ ap (λ (k : ℕ). tabulate k f) whole)
 
-abbrev start : tie.Else1 → tie.Start
-start p = p.before.before.before
-
--- The first of two blocks has come back.
-abbrev first : tie.After-slice-known4 → tie.After-fill-block2
-first p = p.before.before.before.before.before.before
-
 pub fill_row_spec : {M : Type 1} → statement M
 fill_row_spec =
     tie.close
     (tie.spec
-    (λ c κs. record { entries = c.before.before.before.before.requires.entries; short = omega (arith, c.before.if1.true) })
+    (λ c κs. record { entries = c.requires.entries; short = omega (arith, c.if-row-le64.true) })
     (λ c. search rules)
-    (λ c. sym (length-take-le 64 (start c.before).args.row.now (omega (arith, c.before.if1.false))))
+    (λ c. sym (length-take-le 64 c.args.row.now (omega (arith, c.if-row-le64.false))))
     (λ c κs.
-    let s = start c.before in
-    record { entries = s.pre.entries; short = omega (arith, length-take 64 s.args.row.now) })
+    record { entries = c.requires.entries; short = omega (arith, length-take 64 c.args.row.now) })
     (λ c. search rules)
     (λ c. search rules)
     (λ c. search rules)
     (λ c κs. search rules)
     (λ c. search rules)
-    (λ c. c.before.before.fill_block.ensures ∙ from_zero _ _)
+    (λ c. c.fill_block.ensures ∙ from_zero _ _)
     (λ c. search rules)
     (λ c.
-    let e = (first c).before.before in
-    let a = (start e).args in
-    let more : 64 < length a.row.now = omega (arith, e.if1.left) in
-    two_blocks (mask_by a.text.now a.steps.now a.rules a.s) a.row.now _ _ more (first c).fill-block2.ensures
-    c.before.before.fill-block3.ensures))
+    let a = c.args in
+    let more : 64 < length a.row.now = omega (arith, c.if-row-le64.false) in
+    two_blocks (mask_by a.text.now a.steps.now a.rules a.s) a.row.now _ _ more c.fill_block-else-row-le64.ensures
+    c.fill_block-else-row-le64-2.ensures))

@@ -10,18 +10,18 @@ use Rattle.semantics.proofs.Fours.{quarter}
 use Rattle.semantics.proofs.masks.put_some.Statement.{statement}
 use Rattle.semantics.proofs.masks.put_some.Tie as tie
 
-abbrev invariant-loop : tie.invariant-loop
-invariant-loop four part₀ j₀ part j = FilledTo (λ j. set_of 16 (λ i. has four (16 * j + i))) part₀ part j
+abbrev invariant-loop-j : tie.invariant-loop-j
+invariant-loop-j four part₀ j₀ part j = FilledTo (λ j. set_of 16 (λ i. has four (16 * j + i))) part₀ part j
 
-abbrev decreases-loop : tie.decreases-loop
-decreases-loop four part₀ j₀ part j = length part - j
+abbrev decreases-loop-j : tie.decreases-loop-j
+decreases-loop-j four part₀ j₀ part j = length part - j
 
 pub put_some_spec : {M : Type 1} → statement M
 put_some_spec =
     tie.close
     (tie.spec
-    invariant-loop
-    decreases-loop
+    invariant-loop-j
+    decreases-loop-j
     (λ c. none_filled _ _)
     (λ c. omega arith)
     (λ c. omega arith)
@@ -30,6 +30,6 @@ put_some_spec =
     (λ c. omega arith)
     (λ c. omega arith)
     (λ c. simp length-set (omega arith))
-    (λ c. one_filled _ _ _ _ c.before.loop.invariant _ c.loop-test.true (quarter _ _))
-    (λ c. c.before.loop.invariant.kept)
-    (λ c. all_filled _ _ _ _ c.before.loop.invariant c.loop-test.false))
+    (λ c. one_filled _ _ _ _ c.loop-j.invariant _ c.loop-j-test.true (quarter _ _))
+    (λ c. c.loop-j.invariant.kept)
+    (λ c. all_filled _ _ _ _ c.loop-j.invariant c.loop-j-test.false))

@@ -25,7 +25,7 @@ pub meets_start_spec : {M : Type 1} → statement M
 meets_start_spec =
     tie.close
     (tie.spec
-    (λ c. no_part _ _ _ _ c.if1.true)
+    (λ c. no_part _ _ _ _ c.if-bytes-eq0.true)
     (λ c κs. search rules)
     (λ c κs. search rules)
-    (λ c. some_part _ _ _ _ c.before.before.if1.false c.before.rest.ensures.0 c.is_met.ensures))
+    (λ c. some_part _ _ _ _ c.if-bytes-eq0.false c.rest.ensures.0 c.is_met.ensures))

@@ -11,30 +11,30 @@ use Rattle.semantics.specs.Meaning.{every}
 use Rattle.semantics.proofs.starts.none_has.Statement.{statement}
 use Rattle.semantics.proofs.starts.none_has.Tie as tie
 
-abbrev invariant-loop : tie.invariant-loop
-invariant-loop starts rules none₀ i₀ none i = (i ≤ rules) × (none ≡ every i (λ j. eqb (get_or starts j 0) 0))
+abbrev invariant-loop-i : tie.invariant-loop-i
+invariant-loop-i starts rules none₀ i₀ none i = (i ≤ rules) × (none ≡ every i (λ j. eqb (get_or starts j 0) 0))
 
-abbrev decreases-loop : tie.decreases-loop
-decreases-loop starts rules none₀ i₀ none i = rules - i
+abbrev decreases-loop-i : tie.decreases-loop-i
+decreases-loop-i starts rules none₀ i₀ none i = rules - i
 
 pub none_has_spec : {M : Type 1} → statement M
 unfolding every
 none_has_spec =
     tie.close
     (tie.spec
-    invariant-loop
-    decreases-loop
+    invariant-loop-i
+    decreases-loop-i
     (λ c. (omega arith, refl))
-    (λ c. let p = c.before.before.requires in omega (arith, p.size, p.few))
-    (λ c. let p = c.before.before.before.requires in omega (arith, p.few))
+    (λ c. let p = c.requires in omega (arith, p.size, p.few))
+    (λ c. let p = c.requires in omega (arith, p.few))
     (λ c. omega arith)
     (λ c.
-    let l = c.before.before.loop in
-    let a = c.before.before.before.args in (
+    let l = c.loop-i in
+    let a = c.args in (
       omega arith,
       ap (λ b. b && eqb (get_or a.starts.now l.i 0) 0) l.invariant.1 ∙ ap (λ (n : ℕ). every n (λ j. eqb (get_or a.starts.now j 0) 0)) (sym (add-one l.i)),
     ))
     (λ c.
-    let a = c.before.before.args in
-    let end : c.before.loop.i ≡ a.rules = omega arith in
-    c.before.loop.invariant.1 ∙ ap (λ (n : ℕ). every n (λ j. eqb (get_or a.starts.now j 0) 0)) end))
+    let a = c.args in
+    let end : c.loop-i.i ≡ a.rules = omega arith in
+    c.loop-i.invariant.1 ∙ ap (λ (n : ℕ). every n (λ j. eqb (get_or a.starts.now j 0) 0)) end))

@@ -13,9 +13,9 @@ use Rattle.models.specs.Written.{described}
 use Rattle.systems.specs.declared.tables.Tables.{Tables}
 use Rattle.semantics.specs.TablesOf.{rows_of, masks_of, marks_of, tables_of}
 use Rattle.semantics.specs.Places.{meets_all, mask_row_by}
-use Rattle.semantics.specs.Laws.TablesOf.{states_le, length_rows}
-use Rattle.models.specs.Laws.Written.{described_count}
-use Rattle.semantics.specs.Laws.Places.{init_described, bad_described, rows_described}
+use Rattle.semantics.proofs.Laws.TablesOf.{states_le, length_rows}
+use Rattle.models.proofs.Laws.Written.{described_count}
+use Rattle.semantics.proofs.Laws.Places.{init_described, bad_described, rows_described}
 use Rattle.semantics.proofs.tables.fill.Statement.{statement}
 use Rattle.semantics.proofs.tables.fill.Tie as tie
 
@@ -40,56 +40,30 @@ module _ (text : List ℕ) (m : Model) {states : ℕ} (e : states ≡ 2 ^ m.vars
       p ∙ ap (λ n. rows_of before (n + 1) n (mask_row_by text m.steps m.starts m.rules n)) e
       ∙ ap (rows_of before (2 ^ m.vars + 1) (2 ^ m.vars)) (rows_described text m)
 
--- The number of states is known, and then the masks are filled.
-abbrev counted : tie.After-slice-known2 → tie.After-state_count
-counted p = p.before.before.before.before.before.before.before.before
-
-abbrev start : tie.After-state_count → tie.Start
-start p = p.before.before.before
-
-small : (n : tie.After-state_count) → n.state_count.result ≤ 128
-small n = omega (arith, n.state_count.ensures, states_le (start n).args.m.vars (start n).requires.few.vars)
-
--- There are four places of properties, and the model has no more.
-module _ (p : tie.After-marks_of) where
-  abbrev known : tie.After-state_count
-  known = counted p.before.before.before
-
-  abbrev model : Model
-  model = (start known).args.m
-
-  four : length model.props ≡ 4
-  four = search rules
-
-  few : model.properties ≤ 4
-  few = (start known).pre.few.properties
-
-  places_enough : model.properties ≤ length model.props
-  places_enough = omega (arith, four, few)
+-- There are as many states as the letters give, and at most 128.
+few_states : {states vars : ℕ} → states ≡ 2 ^ vars → vars ≤ 7 → states ≤ 128
+few_states {states} {vars} e few = omega (arith, e, states_le vars few)
 
 pub fill_spec : {M : Type 1} → statement M
 fill_spec =
     tie.close
     (tie.spec
-    (λ c κs. c.before.before.requires.few.vars)
+    (λ c κs. c.requires.few.vars)
     (λ c κs.
-    let n = c.before.before.before.before.before in
-    let p = (start n).requires in record {
+    let p = c.requires in record {
       parts = record { step_entries = record { size = search rules; few = p.few.rules }; start_entries = record { size = search rules; few = p.few.rules } };
-      few = small n;
-      room = omega (arith, n.state_count.ensures, p.room);
+      few = few_states c.state_count-states.ensures p.few.vars;
+      room = omega (arith, c.state_count-states.ensures, p.room);
     })
     (λ c. search rules)
-    (λ c κs. small (counted c.before.before))
-    (λ c. omega (arith, four c, few c))
-    (λ c. sym (length-take-le _ _ (omega (arith, four c.before, few c.before))))
-    (λ c κs. small (known c.before))
-    (λ c. ap length c.before.before.before.before.before.before.before.fill_masks.ensures ∙ length_rows _ _ _ _)
+    (λ c κs. few_states c.state_count-states.ensures c.requires.few.vars)
+    (λ c. let four : length c.args.m.props ≡ 4 = search rules in omega (arith, four, c.requires.few.properties))
+    (λ c. let four : length c.args.m.props ≡ 4 = search rules in sym (length-take-le _ _ (omega (arith, four, c.requires.few.properties))))
+    (λ c κs. few_states c.state_count-states.ensures c.requires.few.vars)
+    (λ c. ap length c.fill_masks.ensures ∙ length_rows _ _ _ _)
     (λ c.
-    let s = c.before.before in
-    let f = s.before.before.before.before.before in
-    let n = known s in
-    let a = (start n).args in (
-      tables_are a.text.now a.m n.state_count.ensures s.marks_of.ensures c.marks-of2.ensures (places_enough s),
-      masks_are a.text.now a.m n.state_count.ensures a.masks.now f.fill_masks.ensures,
+    let a = c.args in
+    let four : length a.m.props ≡ 4 = search rules in (
+      tables_are a.text.now a.m c.state_count-states.ensures c.marks_of-init.ensures c.marks_of-bad.ensures (omega (arith, four, c.requires.few.properties)),
+      masks_are a.text.now a.m c.state_count-states.ensures a.masks.now c.fill_masks.ensures,
     )))

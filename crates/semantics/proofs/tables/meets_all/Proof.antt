@@ -17,19 +17,19 @@ use Rattle.semantics.proofs.tables.meets_all.Tie as tie
 abbrev met_at : (text places : List ℕ) → ℕ → ℕ → Bool
 met_at text places s j = meets text (get_or places j 0) s s
 
-abbrev invariant-loop : tie.invariant-loop
-invariant-loop text places s met₀ j₀ met j = (j ≤ length places) × (met ≡ every j (met_at text places s))
+abbrev invariant-loop-j : tie.invariant-loop-j
+invariant-loop-j text places s met₀ j₀ met j = (j ≤ length places) × (met ≡ every j (met_at text places s))
 
-abbrev decreases-loop : tie.decreases-loop
-decreases-loop text places s met₀ j₀ met j = length places - j
+abbrev decreases-loop-j : tie.decreases-loop-j
+decreases-loop-j text places s met₀ j₀ met j = length places - j
 
 pub meets_all_spec : {M : Type 1} → statement M
 unfolding every meets_all
 meets_all_spec =
     tie.close
     (tie.spec
-    invariant-loop
-    decreases-loop
+    invariant-loop-j
+    decreases-loop-j
     (λ c. (omega arith, refl))
     (λ c. search rules)
     (λ c. search rules)
@@ -37,10 +37,10 @@ meets_all_spec =
     (λ c. omega arith)
     (λ c. omega arith)
     (λ c.
-    let a = c.before.before.before.before.before.before.args in
-    let l = c.before.before.before.loop in
-    (omega arith, ap₂ ◌&&◌ l.invariant.1 c.is_met.ensures ∙ ap (λ (n : ℕ). every n (met_at a.text.now a.places.now a.s)) (sym (add-one l.j))))
+    let a = c.args in
+    let l = c.loop-j in
+    (omega arith, ap₂ ◌&&◌ l.invariant.1 c.is_met-met.ensures ∙ ap (λ (n : ℕ). every n (met_at a.text.now a.places.now a.s)) (sym (add-one l.j))))
     (λ c.
-    let a = c.before.before.before.before.args in
-    let end : c.before.loop.j ≡ length a.places.now = omega arith in
-    c.before.loop.invariant.1 ∙ ap (λ (n : ℕ). every n (met_at a.text.now a.places.now a.s)) end))
+    let a = c.args in
+    let end : c.loop-j.j ≡ length a.places.now = omega arith in
+    c.loop-j.invariant.1 ∙ ap (λ (n : ℕ). every n (met_at a.text.now a.places.now a.s)) end))

@@ -3,7 +3,7 @@ use Prim.Native.Nat.{ℕ, ◌%◌}
 use mathlib.Core.Path.{ap, ◌∙◌}
 use borrow.Author.Rules.{rules}
 use Rattle.sets.specs.Bit.{has}
-use Rattle.semantics.specs.Laws.Places.{bit_meets}
+use Rattle.semantics.proofs.Laws.Places.{bit_meets}
 use Rattle.semantics.proofs.values.is_met.Statement.{statement}
 use Rattle.semantics.proofs.values.is_met.Tie as tie
 
@@ -15,5 +15,5 @@ is_met_spec =
     (λ c κs. search rules)
     (λ c. search rules)
     (λ c.
-    let a = c.before.before.args in
-    ap (λ (w : ℕ). has w (a.t % 64)) c.word_of.ensures ∙ bit_meets a.text.now a.place a.s a.t))
+    let a = c.args in
+    ap (λ (w : ℕ). has w (a.t % 64)) c.word_of-word.ensures ∙ bit_meets a.text.now a.place a.s a.t))

@@ -7,7 +7,7 @@ use lib.ListN.{drop}
 use Rattle.exprs.specs.declared.words.Worded.{Worded}
 use Rattle.exprs.specs.Answers.{words_of}
 use Rattle.semantics.specs.Places.{word_at}
-use Rattle.semantics.specs.Laws.Places.{word_in, words_meet}
+use Rattle.semantics.proofs.Laws.Places.{word_in, words_meet}
 use Rattle.semantics.proofs.values.word_of.Statement.{statement}
 use Rattle.semantics.proofs.values.word_of.Tie as tie
 
@@ -23,5 +23,5 @@ word_of_spec =
     (λ c κs. search rules)
     (λ c. search rules)
     (λ c. search rules)
-    (λ c. answered _ _ _ _ _ _ _ c.before.before.before.before.rest.ensures.0 c.before.before.before.words.ensures c.before.w.given.1)
-    (λ c. answered _ _ _ _ _ _ _ c.before.before.before.rest.ensures.0 c.before.before.words.ensures c.enum_told.given.1))
+    (λ c. answered _ _ _ _ _ _ _ c.rest.ensures.0 c.words-w.ensures c.in-Word.is)
+    (λ c. answered _ _ _ _ _ _ _ c.rest.ensures.0 c.words-w.ensures c.in-NoWord.is))

@@ -15,11 +15,11 @@ use Rattle.sets.proofs.Passing.{lacking, kept, passed, all_above}
 use Rattle.sets.proofs.words.above.Statement.{statement}
 use Rattle.sets.proofs.words.above.Tie as tie
 
-abbrev invariant-loop : tie.invariant-loop
-invariant-loop set word₀ i₀ word i = (i ≤ 6) × (word ≡ set_of 64 (λ t. none_below (lacking set t) i))
+abbrev invariant-loop-i : tie.invariant-loop-i
+invariant-loop-i set word₀ i₀ word i = (i ≤ 6) × (word ≡ set_of 64 (λ t. none_below (lacking set t) i))
 
-abbrev decreases-loop : tie.decreases-loop
-decreases-loop set word₀ i₀ word i = 6 - i
+abbrev decreases-loop-i : tie.decreases-loop-i
+decreases-loop-i set word₀ i₀ word i = 6 - i
 
 -- the set has rule i: the numbers that have it are kept
 having_kept : (S i : ℕ) → has S i ≡ true → set_of 64 (λ t. has t i) ≡ set_of 64 (λ t. not (lacking S t i))
@@ -30,22 +30,22 @@ unfolding none_below has
 above_spec =
     tie.close
     (tie.spec
-    invariant-loop
-    decreases-loop
+    invariant-loop-i
+    decreases-loop-i
     (λ c. (omega arith, set_of_all 64))
     (λ c. omega arith)
     (λ c κs. search rules)
     (λ c. omega arith)
     (λ c. omega arith)
     (λ c.
-    let l = c.before.before.loop in
-    let S = c.before.before.before.args.set in (
+    let l = c.loop-i in
+    let S = c.args.set in (
       omega arith,
       ⊎_elim
-          (λ w. rw w.2 (kept (lacking S) l.i l.invariant.1 _ (w.1.ensures ∙ having_kept S l.i (eq-eqb _ _ w.0.taken))))
-          (λ w. rw w.1 (passed (lacking S) l.i l.invariant.1 (λ t. rw (ne_eqb _ _ w.0.left))))
-          c.if1.branch,
+          (λ w. rw w.word-is (kept (lacking S) l.i l.invariant.1 _ (w.having-word.ensures ∙ having_kept S l.i (eq-eqb _ _ w.if-set-i-eq1.true))))
+          (λ w. rw w.word-is (passed (lacking S) l.i l.invariant.1 (λ t. rw (ne_eqb _ _ w.if-set-i-eq1.false))))
+          c.if-set-i-eq1.branch-raw,
     ))
     (λ c.
-    let end : c.before.loop.i ≡ 6 = omega arith in
-    (rw end at c.before.loop.invariant.1) ∙ all_above _ c.before.before.requires))
+    let end : c.loop-i.i ≡ 6 = omega arith in
+    (rw end at c.loop-i.invariant.1) ∙ all_above _ c.requires))

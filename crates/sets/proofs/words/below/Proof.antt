@@ -15,11 +15,11 @@ use Rattle.sets.proofs.Passing.{lacking, kept, passed, all_below}
 use Rattle.sets.proofs.words.below.Statement.{statement}
 use Rattle.sets.proofs.words.below.Tie as tie
 
-abbrev invariant-loop : tie.invariant-loop
-invariant-loop set word₀ i₀ word i = (i ≤ 6) × (word ≡ set_of 64 (λ t. none_below (lacking t set) i))
+abbrev invariant-loop-i : tie.invariant-loop-i
+invariant-loop-i set word₀ i₀ word i = (i ≤ 6) × (word ≡ set_of 64 (λ t. none_below (lacking t set) i))
 
-abbrev decreases-loop : tie.decreases-loop
-decreases-loop set word₀ i₀ word i = 6 - i
+abbrev decreases-loop-i : tie.decreases-loop-i
+decreases-loop-i set word₀ i₀ word i = 6 - i
 
 -- the set lacks rule i: the numbers that lack it too are kept
 having_dropped : (S i word : ℕ) → has S i ≡ false → word ≡ set_of 64 (λ t. has t i) → full 64 - word ≡ set_of 64 (λ t. not (lacking t S i))
@@ -33,22 +33,22 @@ unfolding none_below has
 below_spec =
     tie.close
     (tie.spec
-    invariant-loop
-    decreases-loop
+    invariant-loop-i
+    decreases-loop-i
     (λ c. (omega arith, set_of_all 64))
     (λ c. omega arith)
     (λ c κs. search rules)
     (λ c. omega arith)
     (λ c. omega arith)
     (λ c.
-    let l = c.before.before.loop in
-    let S = c.before.before.before.args.set in (
+    let l = c.loop-i in
+    let S = c.args.set in (
       omega arith,
       ⊎_elim
-          (λ w. rw w.2 (kept (λ t. lacking t S) l.i l.invariant.1 _ (having_dropped S l.i _ (ne_eqb (S / 2 ^ l.i % 2) 1 (omega (arith, w.0.taken))) w.1.ensures)))
-          (λ w. rw w.1 (passed (λ t. lacking t S) l.i l.invariant.1 (λ t. rw (eq-eqb (S / 2 ^ l.i % 2) 1 (omega (arith, w.0.left)), and-false))))
-          c.if1.branch,
+          (λ w. rw w.word-is (kept (λ t. lacking t S) l.i l.invariant.1 _ (having_dropped S l.i _ (ne_eqb (S / 2 ^ l.i % 2) 1 (omega (arith, w.if-set-i-eq0.true))) w.having.ensures)))
+          (λ w. rw w.word-is (passed (λ t. lacking t S) l.i l.invariant.1 (λ t. rw (eq-eqb (S / 2 ^ l.i % 2) 1 (omega (arith, w.if-set-i-eq0.false)), and-false))))
+          c.if-set-i-eq0.branch-raw,
     ))
     (λ c.
-    let end : c.before.loop.i ≡ 6 = omega arith in
-    (rw end at c.before.loop.invariant.1) ∙ all_below _))
+    let end : c.loop-i.i ≡ 6 = omega arith in
+    (rw end at c.loop-i.invariant.1) ∙ all_below _))

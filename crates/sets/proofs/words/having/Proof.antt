@@ -47,10 +47,10 @@ pub having_spec : {M : Type 1} → statement M
 having_spec =
     tie.close
     (tie.spec
-    (λ c. at 0 c.match.keys1 alternating)
-    (λ c. at 1 c.match.keys2 pairs)
-    (λ c. at 2 c.match.keys3 fours)
-    (λ c. at 3 c.match.keys4 eights)
-    (λ c. at 4 c.match.keys5 sixteens)
-    (λ c. at 5 c.match.keys6 half)
+    (λ c. at 0 c.in-0.is alternating)
+    (λ c. at 1 c.in-1.is pairs)
+    (λ c. at 2 c.in-2.is fours)
+    (λ c. at 3 c.in-3.is eights)
+    (λ c. at 4 c.in-4.is sixteens)
+    (λ c. at 5 c.in-5.is half)
     (λ c. none _ (omega arith)))

@@ -9,4 +9,4 @@ use Rattle.slices.proofs.parts.byte_at.Tie as tie
 pub byte_at_spec : {M : Type 1} → statement M
 byte_at_spec =
     tie.close
-    (tie.spec (λ c. search rules) (λ c. search rules) (λ c. sym (get_or-eq_default c.before.args.s.now 0 c.if1.false)))
+    (tie.spec (λ c. search rules) (λ c. search rules) (λ c. sym (get_or-eq_default c.args.s.now 0 c.if-at-s.false)))

@@ -11,6 +11,6 @@ pub front_spec : {M : Type 1} → statement M
 front_spec =
     tie.close
     (tie.spec
-    (λ c. sym (length-take-le _ c.before.before.args.s.now (le_of_lt c.before.if1.true)))
+    (λ c. sym (length-take-le _ c.args.s.now (le_of_lt c.if-to-s.true)))
     (λ c. search rules)
-    (λ c. (sym (take_all _ c.before.args.s.now c.if1.false), refl)))
+    (λ c. (sym (take_all _ c.args.s.now c.if-to-s.false), refl)))

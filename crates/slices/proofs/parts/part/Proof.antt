@@ -45,17 +45,17 @@ part_spec =
     (tie.spec
     (λ c κs. search rules)
     (λ c.
-    let a = c.before.before.before.args in
-    let l = c.before.if1.true in
+    let a = c.args in
+    let l = c.if-s-to.true in
     (c.rest.ensures.0 ∙ sym (part_past a.s.now a.from a.to l), c.rest.ensures.1 ∙ past a.s.ref_ptr a.s.now a.from a.to l))
     (λ c. search rules)
     (λ c. search rules)
     (λ c. search rules)
     (λ c.
-    let a = c.before.before.before.before.args in
-    (refl, within a.s.ref_ptr a.s.now a.from a.to c.before.if2.true (omega arith)))
+    let a = c.args in
+    (refl, within a.s.ref_ptr a.s.now a.from a.to c.if-from-to.true (omega arith)))
     (λ c.
-    let a = c.before.before.before.before.args in (
-      ap (λ (n : ℕ). take n (drop a.from a.s.now)) (sym (sub-eq-zero_of_le (le_of_lt c.before.if2.false))),
-      before a.s.ref_ptr a.s.now a.from a.to c.before.if2.false,
+    let a = c.args in (
+      ap (λ (n : ℕ). take n (drop a.from a.s.now)) (sym (sub-eq-zero_of_le (le_of_lt c.if-from-to.false))),
+      before a.s.ref_ptr a.s.now a.from a.to c.if-from-to.false,
     )))

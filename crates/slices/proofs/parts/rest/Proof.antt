@@ -20,8 +20,8 @@ rest_spec =
     (λ c. search rules)
     (λ c. search rules)
     (λ c.
-    let a = c.before.before.args in
-    (part_to_end a.s.now a.from, rw (le-leb a.from (length a.s.now) c.before.if1.true)))
+    let a = c.args in
+    (part_to_end a.s.now a.from, rw (le-leb a.from (length a.s.now) c.if-from-s.true)))
     (λ c.
-    let a = c.before.before.args in
-    (sym (drop_of_length-le a.s.now (le_of_lt c.before.if1.false)), rw (lt-leb a.from (length a.s.now) c.before.if1.false))))
+    let a = c.args in
+    (sym (drop_of_length-le a.s.now (le_of_lt c.if-from-s.false)), rw (lt-leb a.from (length a.s.now) c.if-from-s.false))))

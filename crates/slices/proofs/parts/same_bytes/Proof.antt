@@ -11,29 +11,29 @@ use Rattle.slices.specs.Laws.Same.{same_true, same_false}
 use Rattle.slices.proofs.parts.same_bytes.Statement.{statement}
 use Rattle.slices.proofs.parts.same_bytes.Tie as tie
 
-abbrev invariant-loop : tie.invariant-loop
-invariant-loop a b i₀ i = (i ≤ length a) × ((k : ℕ) → k < i → get_or a k 0 ≡ get_or b k 0)
+abbrev invariant-loop-i : tie.invariant-loop-i
+invariant-loop-i a b i₀ i = (i ≤ length a) × ((k : ℕ) → k < i → get_or a k 0 ≡ get_or b k 0)
 
-abbrev decreases-loop : tie.decreases-loop
-decreases-loop a b i₀ i = length a - i
+abbrev decreases-loop-i : tie.decreases-loop-i
+decreases-loop-i a b i₀ i = length a - i
 
 pub same_bytes_spec : {M : Type 1} → statement M
 same_bytes_spec =
     tie.close
     (tie.spec
-    invariant-loop
-    decreases-loop
-    (λ c. let a = c.before.args in sym (same_false a.a.now a.b.now (λ e. c.if1.true (ap length e))))
+    invariant-loop-i
+    decreases-loop-i
+    (λ c. let a = c.args in sym (same_false a.a.now a.b.now (λ e. c.if-a-b.true (ap length e))))
     (λ c. (omega arith, λ k h. absurd (omega arith)))
     (λ c. omega arith)
     (λ c. omega arith)
     (λ c.
-    let l = c.before.before.before.before in
-    let a = l.before.before.args in
-    sym (same_false a.a.now a.b.now (λ e. c.if2.true (ap (λ (x : List ℕ). get_or x l.loop.i 0) e))))
+    let l = c in
+    let a = l.args in
+    sym (same_false a.a.now a.b.now (λ e. c.if-a-i.true (ap (λ (x : List ℕ). get_or x l.loop-i.i 0) e))))
     (λ c. omega arith)
     (λ c. omega arith)
-    (λ c. (omega arith, below_more _ _ c.before.before.before.before.loop.invariant.1 c.if2.false))
+    (λ c. (omega arith, below_more _ _ c.loop-i.invariant.1 c.if-a-i.false))
     (λ c.
-    let a = c.before.before.before.args in
-    sym (same_true a.a.now a.b.now (ext_get_or 0 a.a.now a.b.now c.before.before.if1.false (λ k h. c.before.loop.invariant.1 k (omega arith))))))
+    let a = c.args in
+    sym (same_true a.a.now a.b.now (ext_get_or 0 a.a.now a.b.now c.if-a-b.false (λ k h. c.loop-i.invariant.1 k (omega arith))))))

@@ -8,7 +8,7 @@ use native.Mathlib.Omega.{arith}
 use lib.Bits.{bit_and}
 use lib.ListN.{length, length-append}
 use Rattle.sets.specs.Lists.{select, list_of, meet, common}
-use Rattle.sets.specs.Laws.ByNumber.{common_more, common_by_number}
+use Rattle.sets.proofs.Laws.ByNumber.{common_more, common_by_number}
 use Rattle.sets.specs.Next.{NextFrom}
 use Rattle.sets.specs.Laws.Next.{next_is}
 use Rattle.marks.specs.Marks.{marked}
@@ -53,32 +53,32 @@ module _ (table : List ℕ) where
         let there : s ≡ 2 ^ R = omega (arith, c.passing.within) in
         c.left ∙ ap (λ (k : ℕ). common (select (marked table) k)) there ∙ common_by_number R (marked table)
 
-abbrev invariant-loop : tie.invariant-loop
-invariant-loop table rules end first all₀ s₀ all s = Meeting table end all s
+abbrev invariant-loop-s : tie.invariant-loop-s
+invariant-loop-s table rules end first all₀ s₀ all s = Meeting table end all s
 
-abbrev decreases-loop : tie.decreases-loop
-decreases-loop table rules end first all₀ s₀ all s = end - s
+abbrev decreases-loop-s : tie.decreases-loop-s
+decreases-loop-s table rules end first all₀ s₀ all s = end - s
 
 -- the marked sets that the loop looks for
-found : (c : tie.After-set_count invariant-loop decreases-loop) → Within c.before.before.args.table.now c.set_count.result
-found c = all_within c.before.before.requires c.set_count.ensures
+found : (c : tie.After-set_count-end invariant-loop-s decreases-loop-s) → Within c.args.table.now c.set_count-end.result
+found c = all_within c.requires c.set_count-end.ensures
 
 pub common_spec : {M : Type 1} → statement M
 common_spec =
     tie.close
     (tie.spec
-    invariant-loop
-    decreases-loop
-    (λ c κs. c.before.requires.few)
+    invariant-loop-s
+    decreases-loop-s
+    (λ c κs. c.requires.few)
     (λ c κs. found c)
-    (λ c. none _ (next_is _ c.before.next_marked.ensures) _ c.before.before.set_count.ensures c.if1.true)
-    (λ c. omega (arith, c.if1.false, (found c.before.before).0))
-    (λ c. omega (arith, c.if1.false, (found c.before.before).0))
+    (λ c. none _ (next_is _ c.next_marked-first.ensures) _ c.set_count-end.ensures c.if-end-first.true)
+    (λ c. omega (arith, c.if-end-first.false, (found c.before.before).0))
+    (λ c. omega (arith, c.if-end-first.false, (found c.before.before).0))
     (λ c κs. found c.before.before)
-    (λ c. start _ (found c.before.before.before) (next_is _ c.before.before.next_marked.ensures) c.before.if1.false (next_is _ c.next-marked2.ensures))
-    (λ c. omega (arith, c.loop-test.true, c.before.loop.invariant.passing.inside.0))
-    (λ c. omega (arith, c.loop-test.true, c.before.loop.invariant.passing.inside.0))
-    (λ c κs. c.before.loop.invariant.passing.inside)
-    (λ c. omega (arith, c.before.loop-test.true, (next_is _ c.next-marked3.ensures).after (omega (arith, c.before.loop-test.true))))
-    (λ c. next _ c.before.before.loop.invariant c.before.loop-test.true (next_is _ c.next-marked3.ensures))
-    (λ c. whole _ c.before.loop.invariant _ c.before.before.before.before.before.set_count.ensures c.loop-test.false))
+    (λ c. start _ (found c.before.before.before) (next_is _ c.next_marked-first.ensures) c.if-end-first.false (next_is _ c.next_marked-s.ensures))
+    (λ c. omega (arith, c.loop-s-test.true, c.loop-s.invariant.passing.inside.0))
+    (λ c. omega (arith, c.loop-s-test.true, c.loop-s.invariant.passing.inside.0))
+    (λ c κs. c.loop-s.invariant.passing.inside)
+    (λ c. omega (arith, c.loop-s-test.true, (next_is _ c.next_marked-s-in-loop-s.ensures).after (omega (arith, c.loop-s-test.true))))
+    (λ c. next _ c.loop-s.invariant c.loop-s-test.true (next_is _ c.next_marked-s-in-loop-s.ensures))
+    (λ c. whole _ c.loop-s.invariant _ c.set_count-end.ensures c.loop-s-test.false))

@@ -10,7 +10,7 @@ use Rattle.sets.specs.Lists.{list_of, common}
 use Rattle.sets.specs.Kinds.{together}
 use Rattle.sets.specs.Laws.Sets.{part_and, part_full}
 use Rattle.sets.specs.Laws.Listed.{mem_list_of}
-use Rattle.sets.specs.Laws.ByNumber.{common_together, together_below}
+use Rattle.sets.proofs.Laws.ByNumber.{common_together, together_below}
 use Rattle.sorting.specs.declared.kinds.Kinds.{Kinds}
 use Rattle.sorting.specs.Kinds.{kinds_by}
 use Rattle.sorting.proofs.kinds.kinds_of.Statement.{statement}
@@ -34,12 +34,12 @@ pub kinds_of_spec : {M : Type 1} → statement M
 kinds_of_spec =
     tie.close
     (tie.spec
-    (λ c κs. c.before.requires)
-    (λ c κs. c.before.before.requires)
+    (λ c κs. c.requires)
+    (λ c κs. c.requires)
     (λ c κs. tt)
-    (λ c κs. c.before.before.before.before.requires.few)
+    (λ c κs. c.requires.few)
     (λ c κs. tt)
     (λ c.
-    let some = c.before.before.before.before.together.ensures in
-    let must = c.before.before.before.common.ensures in
-    kinds_are _ _ must some c.before.full.ensures c.before.before.less.ensures c.less2.ensures))
+    let some = c.together-some.ensures in
+    let must = c.common-must.ensures in
+    kinds_are _ _ must some c.full.ensures c.less.ensures c.less-2.ensures))

@@ -7,7 +7,7 @@ use native.Mathlib.Omega.{arith}
 use lib.Bits.{bit_or}
 use Rattle.sets.specs.Lists.{select, list_of}
 use Rattle.sets.specs.Kinds.{together}
-use Rattle.sets.specs.Laws.ByNumber.{together_more, together_by_number}
+use Rattle.sets.proofs.Laws.ByNumber.{together_more, together_by_number}
 use Rattle.sets.specs.Next.{NextFrom}
 use Rattle.sets.specs.Laws.Next.{next_is}
 use Rattle.marks.specs.Marks.{marked}
@@ -39,28 +39,28 @@ module _ (table : List ℕ) where
         let there : s ≡ 2 ^ R = omega (arith, c.passing.within) in
         c.gathered ∙ ap (λ (k : ℕ). together (select (marked table) k)) there ∙ together_by_number R (marked table)
 
-abbrev invariant-loop : tie.invariant-loop
-invariant-loop table rules end all₀ set₀ all set = Gathering table end all set
+abbrev invariant-loop-set : tie.invariant-loop-set
+invariant-loop-set table rules end all₀ set₀ all set = Gathering table end all set
 
-abbrev decreases-loop : tie.decreases-loop
-decreases-loop table rules end all₀ set₀ all set = end - set
+abbrev decreases-loop-set : tie.decreases-loop-set
+decreases-loop-set table rules end all₀ set₀ all set = end - set
 
 -- the marked sets that the loop looks for
-found : (c : tie.After-set_count invariant-loop decreases-loop) → Within c.before.before.args.table.now c.set_count.result
-found c = all_within c.before.before.requires c.set_count.ensures
+found : (c : tie.After-set_count-end invariant-loop-set decreases-loop-set) → Within c.args.table.now c.set_count-end.result
+found c = all_within c.requires c.set_count-end.ensures
 
 pub together_spec : {M : Type 1} → statement M
 together_spec =
     tie.close
     (tie.spec
-    invariant-loop
-    decreases-loop
-    (λ c κs. c.before.requires.few)
+    invariant-loop-set
+    decreases-loop-set
+    (λ c κs. c.requires.few)
     (λ c κs. found c)
-    (λ c. start _ (found c.before) (next_is _ c.next_marked.ensures))
-    (λ c. omega (arith, c.loop-test.true, c.before.loop.invariant.passing.inside.0))
-    (λ c. omega (arith, c.loop-test.true, c.before.loop.invariant.passing.inside.0))
-    (λ c κs. c.before.loop.invariant.passing.inside)
-    (λ c. omega (arith, c.before.loop-test.true, (next_is _ c.next-marked2.ensures).after (omega (arith, c.before.loop-test.true))))
-    (λ c. next _ c.before.before.loop.invariant c.before.loop-test.true (next_is _ c.next-marked2.ensures))
-    (λ c. whole _ c.before.loop.invariant _ c.before.before.before.set_count.ensures c.loop-test.false))
+    (λ c. start _ (found c.before) (next_is _ c.next_marked-set.ensures))
+    (λ c. omega (arith, c.loop-set-test.true, c.loop-set.invariant.passing.inside.0))
+    (λ c. omega (arith, c.loop-set-test.true, c.loop-set.invariant.passing.inside.0))
+    (λ c κs. c.loop-set.invariant.passing.inside)
+    (λ c. omega (arith, c.loop-set-test.true, (next_is _ c.next_marked-set-in-loop-set.ensures).after (omega (arith, c.loop-set-test.true))))
+    (λ c. next _ c.loop-set.invariant c.loop-set-test.true (next_is _ c.next_marked-set-in-loop-set.ensures))
+    (λ c. whole _ c.loop-set.invariant _ c.set_count-end.ensures c.loop-set-test.false))

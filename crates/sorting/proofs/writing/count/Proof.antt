@@ -37,28 +37,28 @@ module _ (table : List ℕ) where
         let there : s ≡ 2 ^ R = omega (arith, c.passing.within) in
         c.counted ∙ ap (λ (k : ℕ). length (select (marked table) k)) there ∙ sym (length_list_of R (marked table))
 
-abbrev invariant-loop : tie.invariant-loop
-invariant-loop table rules end n₀ s₀ n s = Counting table end n s
+abbrev invariant-loop-s : tie.invariant-loop-s
+invariant-loop-s table rules end n₀ s₀ n s = Counting table end n s
 
-abbrev decreases-loop : tie.decreases-loop
-decreases-loop table rules end n₀ s₀ n s = end - s
+abbrev decreases-loop-s : tie.decreases-loop-s
+decreases-loop-s table rules end n₀ s₀ n s = end - s
 
 -- the marked sets that the loop looks for
-found : (c : tie.After-set_count invariant-loop decreases-loop) → Within c.before.before.args.table.now c.set_count.result
-found c = all_within c.before.before.requires c.set_count.ensures
+found : (c : tie.After-set_count-end invariant-loop-s decreases-loop-s) → Within c.args.table.now c.set_count-end.result
+found c = all_within c.requires c.set_count-end.ensures
 
 pub count_spec : {M : Type 1} → statement M
 count_spec =
     tie.close
     (tie.spec
-    invariant-loop
-    decreases-loop
-    (λ c κs. c.before.requires.few)
+    invariant-loop-s
+    decreases-loop-s
+    (λ c κs. c.requires.few)
     (λ c κs. found c)
-    (λ c. start _ (found c.before) (next_is _ c.next_marked.ensures))
-    (λ c. let i = c.before.loop.invariant in omega (arith, c.loop-test.true, i.few, i.passing.inside.0))
-    (λ c. omega (arith, c.loop-test.true, c.before.loop.invariant.passing.inside.0))
-    (λ c κs. c.before.loop.invariant.passing.inside)
-    (λ c. omega (arith, c.before.loop-test.true, (next_is _ c.next-marked2.ensures).after (omega (arith, c.before.loop-test.true))))
-    (λ c. next _ c.before.before.loop.invariant c.before.loop-test.true (next_is _ c.next-marked2.ensures))
-    (λ c. all _ c.before.loop.invariant _ c.before.before.before.set_count.ensures c.loop-test.false))
+    (λ c. start _ (found c.before) (next_is _ c.next_marked-s.ensures))
+    (λ c. let i = c.loop-s.invariant in omega (arith, c.loop-s-test.true, i.few, i.passing.inside.0))
+    (λ c. omega (arith, c.loop-s-test.true, c.loop-s.invariant.passing.inside.0))
+    (λ c κs. c.loop-s.invariant.passing.inside)
+    (λ c. omega (arith, c.loop-s-test.true, (next_is _ c.next_marked-s-in-loop-s.ensures).after (omega (arith, c.loop-s-test.true))))
+    (λ c. next _ c.loop-s.invariant c.loop-s-test.true (next_is _ c.next_marked-s-in-loop-s.ensures))
+    (λ c. all _ c.loop-s.invariant _ c.set_count-end.ensures c.loop-s-test.false))

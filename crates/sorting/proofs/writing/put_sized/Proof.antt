@@ -35,11 +35,11 @@ unfolding one_if
 none_written test S lent e = rw e (nothing_written lent)
 
 -- where the set has so many rules
-same_size : (c : tie.Then1) → eqb (ones c.before.before.before.args.set.0) c.before.before.before.args.size ≡ true
-same_size c = eq-eqb _ _ (sym c.before.size.ensures ∙ c.if1.true)
+same_size : (c : tie.Then-size) → eqb (ones c.args.set.0) c.args.size ≡ true
+same_size c = eq-eqb _ _ (sym c.size.ensures ∙ c.if-size.true)
 
-room : (c : tie.Then1) → 2 ≤ length c.before.before.before.args.lent.now
-room c = one_set _ _ (same_size c) c.before.before.before.requires
+room : (c : tie.Then-size) → 2 ≤ length c.args.lent.now
+room c = one_set _ _ (same_size c) c.requires
 
 pub put_sized_spec : {M : Type 1} → statement M
 put_sized_spec =
@@ -52,4 +52,4 @@ put_sized_spec =
     (λ c. simp length-set (omega (arith, room c.before.before)))
     (λ c. search rules)
     (λ c. one_written _ _ _ (same_size c.before.before) (room c.before.before))
-    (λ c. none_written _ _ _ (ne_eqb _ _ (λ same. c.if1.false (c.before.size.ensures ∙ same)))))
+    (λ c. none_written _ _ _ (ne_eqb _ _ (λ same. c.if-size.false (c.size.ensures ∙ same)))))

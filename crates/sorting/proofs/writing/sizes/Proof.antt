@@ -47,34 +47,34 @@ module _ (table : List ℕ) where
     all : (R : ℕ) → end ≡ 2 ^ R → end ≤ s → Noted (marked table) (2 ^ R) noted
     all R e l = record { each = λ S h. c.sizes.each S (omega (arith, e)) }
 
-abbrev invariant-loop : tie.invariant-loop
-invariant-loop table rules end noted₀ s₀ noted s = Noting table end noted s
+abbrev invariant-loop-s : tie.invariant-loop-s
+invariant-loop-s table rules end noted₀ s₀ noted s = Noting table end noted s
 
-abbrev decreases-loop : tie.decreases-loop
-decreases-loop table rules end noted₀ s₀ noted s = end - s
+abbrev decreases-loop-s : tie.decreases-loop-s
+decreases-loop-s table rules end noted₀ s₀ noted s = end - s
 
 -- the marked sets that the loop looks for
-found : (c : tie.After-set_count invariant-loop decreases-loop) → Within c.before.before.args.table.now c.set_count.result
-found c = all_within c.before.before.requires c.set_count.ensures
+found : (c : tie.After-set_count-end invariant-loop-s decreases-loop-s) → Within c.args.table.now c.set_count-end.result
+found c = all_within c.requires c.set_count-end.ensures
 
 -- a set has at most 16 rules
-few : (c : tie.After-size invariant-loop decreases-loop) → c.size.result ≤ 16
-few c = omega (arith, c.size.ensures, ones-le 16 c.before.before.loop.s (omega (arith, c.before.loop-test.true, c.before.before.loop.invariant.passing.inside.0)))
+few : (c : tie.After-size invariant-loop-s decreases-loop-s) → c.size.result ≤ 16
+few c = omega (arith, c.size.ensures, ones-le 16 c.loop-s.s (omega (arith, c.loop-s-test.true, c.loop-s.invariant.passing.inside.0)))
 
 pub sizes_spec : {M : Type 1} → statement M
 sizes_spec =
     tie.close
     (tie.spec
-    invariant-loop
-    decreases-loop
-    (λ c κs. c.before.requires.few)
+    invariant-loop-s
+    decreases-loop-s
+    (λ c κs. c.requires.few)
     (λ c κs. found c)
-    (λ c. start _ (found c.before) (next_is _ c.next_marked.ensures))
-    (λ c. omega (arith, c.loop-test.true, c.before.loop.invariant.passing.inside.0))
+    (λ c. start _ (found c.before) (next_is _ c.next_marked-s.ensures))
+    (λ c. omega (arith, c.loop-s-test.true, c.loop-s.invariant.passing.inside.0))
     (λ c κs. search rules)
     (λ c. omega (arith, few c))
-    (λ c. omega (arith, c.before.loop-test.true, c.before.before.loop.invariant.passing.inside.0))
-    (λ c κs. c.before.before.loop.invariant.passing.inside)
-    (λ c. omega (arith, c.before.before.loop-test.true, (next_is _ c.next-marked2.ensures).after (omega (arith, c.before.before.loop-test.true))))
-    (λ c. next _ c.before.before.before.loop.invariant c.before.before.loop-test.true c.before.size.ensures (bit_is _ (few c.before)) (next_is _ c.next-marked2.ensures))
-    (λ c. all _ c.before.loop.invariant _ c.before.before.before.set_count.ensures c.loop-test.false))
+    (λ c. omega (arith, c.loop-s-test.true, c.loop-s.invariant.passing.inside.0))
+    (λ c κs. c.loop-s.invariant.passing.inside)
+    (λ c. omega (arith, c.loop-s-test.true, (next_is _ c.next_marked-s-in-loop-s.ensures).after (omega (arith, c.loop-s-test.true))))
+    (λ c. next _ c.loop-s.invariant c.loop-s-test.true c.size.ensures (bit_is _ (few c.before)) (next_is _ c.next_marked-s-in-loop-s.ensures))
+    (λ c. all _ c.loop-s.invariant _ c.set_count-end.ensures c.loop-s-test.false))

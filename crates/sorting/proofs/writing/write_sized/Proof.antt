@@ -68,40 +68,40 @@ module _ (table : List ℕ) (size : ℕ) where
     unfolding select
     all R e {now} {at} {s} p l = rw (← e) (ended one end before now at s p.writing l)
 
-abbrev invariant-loop : tie.invariant-loop
-invariant-loop table rules size lent₀ end at₀ s₀ lent at s = Putting table size lent₀ end lent at s
+abbrev invariant-loop-s : tie.invariant-loop-s
+invariant-loop-s table rules size lent₀ end at₀ s₀ lent at s = Putting table size lent₀ end lent at s
 
-abbrev decreases-loop : tie.decreases-loop
-decreases-loop table rules size lent₀ end at₀ s₀ lent at s = end - s
+abbrev decreases-loop-s : tie.decreases-loop-s
+decreases-loop-s table rules size lent₀ end at₀ s₀ lent at s = end - s
 
 -- the marked sets that the loop looks for
-found : (c : tie.After-set_count invariant-loop decreases-loop) → Within c.before.before.before.args.table.now c.set_count.result
-found c = all_within c.before.before.before.requires.0 c.set_count.ensures
+found : (c : tie.After-set_count-end invariant-loop-s decreases-loop-s) → Within c.args.table.now c.set_count-end.result
+found c = all_within c.requires.0 c.set_count-end.ensures
 
 -- the turn of the loop, from after its set was put
-abbrev turn : tie.After-slice-known2 invariant-loop decreases-loop → tie.In-loop invariant-loop decreases-loop
+abbrev turn : tie.After-slice_known-in-loop-s-1 invariant-loop-s decreases-loop-s → tie.In-loop-s invariant-loop-s decreases-loop-s
 turn c = c.before.before.before.before
 
 pub write_sized_spec : {M : Type 1} → statement M
 write_sized_spec =
     tie.close
     (tie.spec
-    invariant-loop
-    decreases-loop
-    (λ c κs. c.before.before.requires.0.few)
+    invariant-loop-s
+    decreases-loop-s
+    (λ c κs. c.requires.0.few)
     (λ c κs. found c)
-    (λ c. start _ _ _ _ _ c.before.set_count.ensures c.before.before.before.before.requires.1 (found c.before) (next_is _ c.next_marked.ensures))
-    (λ c. omega (arith, c.loop-test.true, c.before.loop.invariant.passing.inside.0))
-    (λ c. omega (arith, place_le _ _ _ _ _ _ c.before.loop.invariant.writing))
-    (λ c. omega (arith, place_le _ _ _ _ _ _ c.before.loop.invariant.writing))
+    (λ c. start _ _ _ _ _ c.set_count-end.ensures c.requires.1 (found c.before) (next_is _ c.next_marked-s.ensures))
+    (λ c. omega (arith, c.loop-s-test.true, c.loop-s.invariant.passing.inside.0))
+    (λ c. omega (arith, place_le _ _ _ _ _ _ c.loop-s.invariant.writing))
+    (λ c. omega (arith, place_le _ _ _ _ _ _ c.loop-s.invariant.writing))
     (λ c. omega arith)
-    (λ c κs. fits _ _ _ _ _ _ _ c.before.before.loop.invariant c.before.loop-test.true)
-    (λ c. let l = turn c in omega (arith, small _ _ _ _ _ _ _ l.before.loop.inv l.loop-test.taken _ _ c.before.before.put_sized.ensures))
-    (λ c. let l = turn c in omega (arith, l.loop-test.taken, l.before.loop.inv.passing.inside.0))
-    (λ c κs. (turn c).before.loop.invariant.passing.inside)
-    (λ c. let l = turn c.before in omega (arith, l.loop-test.taken, (next_is _ c.next-marked2.ensures).after (omega (arith, l.loop-test.taken))))
+    (λ c κs. fits _ _ _ _ _ _ _ c.loop-s.invariant c.loop-s-test.true)
+    (λ c. let l = turn c in omega (arith, small _ _ _ _ _ _ _ l.loop-s.invariant l.loop-s-test.true _ _ c.put_sized-at.ensures))
+    (λ c. let l = turn c in omega (arith, l.loop-s-test.true, l.loop-s.invariant.passing.inside.0))
+    (λ c κs. (turn c).loop-s.invariant.passing.inside)
+    (λ c. let l = turn c.before in omega (arith, l.loop-s-test.true, (next_is _ c.next_marked-s-in-loop-s.ensures).after (omega (arith, l.loop-s-test.true))))
     (λ c.
     let l = turn c.before in
-    again _ _ _ _ _ _ _ l.before.loop.inv l.loop-test.taken _ _ c.before.before.before.put_sized.ensures (next_is _ c.next-marked2.ensures))
-    (λ c. same_length _ _ _ _ _ _ c.before.loop.invariant.writing)
-    (λ c. all _ _ _ _ _ c.before.before.before.set_count.ensures c.before.loop.invariant c.loop-test.false))
+    again _ _ _ _ _ _ _ l.loop-s.invariant l.loop-s-test.true _ _ c.put_sized-at.ensures (next_is _ c.next_marked-s-in-loop-s.ensures))
+    (λ c. same_length _ _ _ _ _ _ c.loop-s.invariant.writing)
+    (λ c. all _ _ _ _ _ c.set_count-end.ensures c.loop-s.invariant c.loop-s-test.false))

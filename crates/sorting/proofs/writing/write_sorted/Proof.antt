@@ -62,36 +62,34 @@ module _ (table : List ℕ) (R : ℕ) where
     unfolding list_of by_size
     all l = (ended of (suc R) before now at size s.writing (omega arith)).bytes
 
-abbrev invariant-loop : tie.invariant-loop
-invariant-loop table rules lent₀ noted at₀ size₀ lent at size = Sorting table rules noted lent₀ lent at size
+abbrev invariant-loop-size : tie.invariant-loop-size
+invariant-loop-size table rules lent₀ noted at₀ size₀ lent at size = Sorting table rules noted lent₀ lent at size
 
-abbrev decreases-loop : tie.decreases-loop
-decreases-loop table rules lent₀ noted at₀ size₀ lent at size = suc rules - size
+abbrev decreases-loop-size : tie.decreases-loop-size
+decreases-loop-size table rules lent₀ noted at₀ size₀ lent at size = suc rules - size
 
 pub write_sorted_spec : {M : Type 1} → statement M
 unfolding has
 write_sorted_spec =
     tie.close
     (tie.spec
-    invariant-loop
-    decreases-loop
-    (λ c κs. c.before.before.requires.0)
-    (λ c. start _ _ c.sizes.ensures c.before.before.before.requires.1)
-    (λ c. omega (arith, c.before.before.before.before.before.requires.0.few))
-    (λ c. omega (arith, place_le _ _ _ _ _ _ c.before.before.loop.invariant.writing))
-    (λ c. omega (arith, place_le _ _ _ _ _ _ c.before.before.loop.invariant.writing))
+    invariant-loop-size
+    decreases-loop-size
+    (λ c κs. c.requires.0)
+    (λ c. start _ _ c.sizes-noted.ensures c.requires.1)
+    (λ c. omega (arith, c.requires.0.few))
+    (λ c. omega (arith, place_le _ _ _ _ _ _ c.loop-size.invariant.writing))
+    (λ c. omega (arith, place_le _ _ _ _ _ _ c.loop-size.invariant.writing))
     (λ c. omega arith)
-    (λ c κs. (c.before.before.before.before.before.before.before.requires.0, room _ _ _ _ _ _ c.before.before.before.loop.invariant.writing (omega (arith, c.before.before.loop-test.true))))
+    (λ c κs. (c.requires.0, room _ _ _ _ _ _ c.loop-size.invariant.writing (omega (arith, c.loop-size-test.true))))
     (λ c.
-    let l = c.before.before.before.before.before in
-    omega (arith, sum_le _ _ _ _ _ _ l.before.loop.invariant.writing (omega (arith, l.loop-test.true)) _ _ c.before.before.write_sized.ensures))
-    (λ c. omega (arith, c.before.loop-test.true, c.before.before.before.before.before.before.requires.0.few))
-    (λ c. omega (arith, c.before.loop-test.true))
+    omega (arith, sum_le _ _ _ _ _ _ c.loop-size.invariant.writing (omega (arith, c.loop-size-test.true)) _ _ c.write_sized-at.ensures))
+    (λ c. omega (arith, c.loop-size-test.true, c.requires.0.few))
+    (λ c. omega (arith, c.loop-size-test.true))
     (λ c.
-    let l = c.before in
-    let i = l.before.loop.invariant in
-    ⊎_elim (λ w. rw (w.5, w.6) (write _ _ i l.loop-test.true w.2.ensures))
-    (λ w. rw (w.1, w.2) (pass _ _ i l.loop-test.true (ne_eqb _ _ w.0.left)))
-    c.if1.branch)
-    (λ c. same_length _ _ _ _ _ _ c.before.loop.invariant.writing)
-    (λ c. all _ _ c.before.loop.invariant (omega (arith, c.loop-test.false))))
+    let i = c.loop-size.invariant in
+    ⊎_elim (λ w. rw (w.lent-is, w.at-is) (write _ _ i c.loop-size-test.true w.write_sized-at.ensures))
+    (λ w. rw (w.lent-is, w.at-is) (pass _ _ i c.loop-size-test.true (ne_eqb _ _ w.if-noted-size-eq1.false)))
+    c.if-noted-size-eq1.branch-raw)
+    (λ c. same_length _ _ _ _ _ _ c.loop-size.invariant.writing)
+    (λ c. all _ _ c.loop-size.invariant (omega (arith, c.loop-size-test.false))))

@@ -12,24 +12,24 @@ use Rattle.traces.proofs.Traces.{run_past, run_longer, run_short}
 use Rattle.traces.proofs.trace.run_length.Statement.{statement}
 use Rattle.traces.proofs.trace.run_length.Tie as tie
 
-abbrev invariant-loop : tie.invariant-loop
-invariant-loop j x n₀ at₀ n at = n + length (get_or (runs_in x) at []) ≡ length (get_or (runs_in x) j [])
+abbrev invariant-loop-at : tie.invariant-loop-at
+invariant-loop-at j x n₀ at₀ n at = n + length (get_or (runs_in x) at []) ≡ length (get_or (runs_in x) j [])
 
-abbrev decreases-loop : tie.decreases-loop
-decreases-loop j x n₀ at₀ n at = length (get_or (runs_in x) at [])
+abbrev decreases-loop-at : tie.decreases-loop-at
+decreases-loop-at j x n₀ at₀ n at = length (get_or (runs_in x) at [])
 
 pub run_length_spec : {M : Type 1} → statement M
 run_length_spec =
     tie.close
     (tie.spec
-    invariant-loop
-    decreases-loop
+    invariant-loop-at
+    decreases-loop-at
     (λ c. omega arith)
-    (λ c. omega (arith, sound_few c.before.before.requires))
+    (λ c. omega (arith, sound_few c.requires))
     (λ c. search rules)
     (λ c.
-    let b = c.before.before.before in
-    record { fits = omega (arith, run_longer b.requires c.before.before.loop.at c.before.loop-test.true, run_short b.requires b.args.j) })
-    (λ c. let b = c.before.before.before in omega (arith, run_longer b.requires c.before.before.loop.at c.before.loop-test.true))
-    (λ c. let b = c.before.before.before in omega (arith, run_longer b.requires c.before.before.loop.at c.before.loop-test.true))
-    (λ c. omega (arith, ap length (run_past c.before.before.requires c.before.loop.at c.loop-test.false))))
+    let b = c in
+    record { fits = omega (arith, run_longer b.requires c.loop-at.at c.loop-at-test.true, run_short b.requires b.args.j) })
+    (λ c. let b = c in omega (arith, run_longer b.requires c.loop-at.at c.loop-at-test.true))
+    (λ c. let b = c in omega (arith, run_longer b.requires c.loop-at.at c.loop-at-test.true))
+    (λ c. omega (arith, ap length (run_past c.requires c.loop-at.at c.loop-at-test.false))))

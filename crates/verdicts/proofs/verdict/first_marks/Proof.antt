@@ -12,24 +12,20 @@ use Rattle.verdicts.proofs.Reaching.{Passed, passed_none, passed_next, mark_firs
 use Rattle.verdicts.proofs.verdict.first_marks.Statement.{statement}
 use Rattle.verdicts.proofs.verdict.first_marks.Tie as tie
 
-abbrev invariant-loop : tie.invariant-loop
-invariant-loop masks set t row marks₀ s₀ marks s =
+abbrev invariant-loop-s : tie.invariant-loop-s
+invariant-loop-s masks set t row marks₀ s₀ marks s =
     (s ≤ t.states) × Passed (λ k. mark_of (start_by masks t set k) false (mark_at t.bad k)) (replicate 128 0) marks s
 
-abbrev decreases-loop : tie.decreases-loop
-decreases-loop masks set t row marks₀ s₀ marks s = t.states - s
-
--- the loop, seen from where the mark of state s has been made
-abbrev loop : tie.After-marks2 invariant-loop decreases-loop → tie.At-loop invariant-loop decreases-loop
-loop c = c.before.before.before.before
+abbrev decreases-loop-s : tie.decreases-loop-s
+decreases-loop-s masks set t row marks₀ s₀ marks s = t.states - s
 
 pub first_marks_spec : {M : Type 1} → statement M
 unfolding mark_at start_by
 first_marks_spec =
     tie.close
     (tie.spec
-    invariant-loop
-    decreases-loop
+    invariant-loop-s
+    decreases-loop-s
     (λ c. search rules)
     (λ c. (omega arith, passed_none _ _))
     (λ c. search rules)
@@ -43,7 +39,7 @@ first_marks_spec =
     (λ c. search rules)
     (λ c. search rules)
     (λ c. search rules)
-    (λ c. (omega arith, passed_next (loop c).loop.invariant.1 _ (omega (arith, length-replicate {A = ℕ} 128 0)) (mark_first _ _)))
+    (λ c. (omega arith, passed_next c.loop-s.invariant.1 _ (omega (arith, length-replicate {A = ℕ} 128 0)) (mark_first _ _)))
     (λ c.
-    let l = c.before.loop in
+    let l = c.loop-s in
     record { size = l.invariant.1.size ∙ length-replicate {A = ℕ} 128 0; at = λ s h. l.invariant.1.done s (omega arith) }))

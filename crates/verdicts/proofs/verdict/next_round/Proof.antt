@@ -10,6 +10,6 @@ next_round_spec =
     tie.close
     (tie.spec
     (λ c κs. search rules)
-    (λ c. next_later c.before.next_open.ensures c.if1.true)
+    (λ c. next_later c.next_open-t.ensures c.if-t-states.true)
     (λ c κs. search rules)
-    (λ c. next_first c.next-open2.ensures))
+    (λ c. next_first c.next_open.ensures))

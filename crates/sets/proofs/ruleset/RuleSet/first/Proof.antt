@@ -8,4 +8,4 @@ use Rattle.sets.proofs.ruleset.RuleSet.first.Tie as tie
 
 pub first_spec : {M : Type 1} → statement M
 first_spec =
-    tie.close (tie.spec (λ c. omega (arith, trailing_le 16 c.before.args.self.0)) (λ c. search rules))
+    tie.close (tie.spec (λ c. omega (arith, trailing_le 16 c.args.self.0)) (λ c. search rules))

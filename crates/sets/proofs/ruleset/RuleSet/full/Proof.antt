@@ -13,6 +13,6 @@ full_spec =
     tie.close
     (tie.spec
     (λ c κs. search rules)
-    (λ c. omega (arith, c.set_count.ensures, pow_pos c.before.args.rules))
-    (λ c. omega (arith, c.set_count.ensures, pow_mono c.before.requires))
+    (λ c. omega (arith, c.set_count.ensures, pow_pos c.args.rules))
+    (λ c. omega (arith, c.set_count.ensures, pow_mono c.requires))
     (λ c. ap (λ (x : ℕ). x - 1) c.set_count.ensures))

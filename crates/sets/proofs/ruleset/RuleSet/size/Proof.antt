@@ -8,4 +8,4 @@ use Rattle.sets.proofs.ruleset.RuleSet.size.Tie as tie
 
 pub size_spec : {M : Type 1} → statement M
 size_spec =
-    tie.close (tie.spec (λ c. omega (arith, ones-le 16 c.before.args.self.0 (omega arith))) (λ c. search rules))
+    tie.close (tie.spec (λ c. omega (arith, ones-le 16 c.args.self.0 (omega arith))) (λ c. search rules))

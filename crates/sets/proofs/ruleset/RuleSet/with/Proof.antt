@@ -11,4 +11,4 @@ pub with_spec : {M : Type 1} → statement M
 unfolding with
 with_spec =
     tie.close
-    (tie.spec (λ c. search rules) (λ c. search rules) (λ c. rw (weight c.before.args.rule 16 (omega arith))))
+    (tie.spec (λ c. search rules) (λ c. search rules) (λ c. rw (weight c.args.rule 16 (omega arith))))

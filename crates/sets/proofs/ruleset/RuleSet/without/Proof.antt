@@ -16,4 +16,4 @@ without_spec =
     (λ c. search rules)
     (λ c. search rules)
     (λ c. and_le_l _ _)
-    (λ c. rw (weight c.before.before.args.rule 16 (omega arith))))
+    (λ c. rw (weight c.args.rule 16 (omega arith))))

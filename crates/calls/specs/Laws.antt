@@ -1,3 +1,0 @@
--- The laws of this crate: what is proved of the definitions that stand one folder above.
-pub mod Answers
-pub mod Sizes

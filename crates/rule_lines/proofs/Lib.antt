@@ -1,0 +1,2 @@
+-- What is proved of the definitions of this crate.
+pub mod Laws
