@@ -1,7 +1,7 @@
 -- The demands of the mission, as theorems about what exactly the calls answer and write. Nothing is assumed.
 -- To believe them, read these files below crates/ in this order (lines without imports and blank lines, 1,958 in all). What is proved of their
--- definitions stands in `Laws` (of specs/ or of proofs/) and need not be read, and neither need the functions that compute (the reading of a text, the verdict, the lists):
--- the theorems say what they give.
+-- definitions stands in `Laws`, of specs/ or of proofs/, and need not be read, and neither need the functions that compute (the reading of a text,
+-- the verdict, the lists): the theorems say what they give.
 --   a number as a set of rules or of letters           sets/specs/Bit                8
 --   expressions, their value and their written form    exprs/specs/Expr             42
 --   a number in base ten                               lines/specs/Decimal          10

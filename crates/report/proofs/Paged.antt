@@ -1,5 +1,5 @@
 -- What one page adds to those before it: on it stand the next bytes of the text, and where none follows, the text is written whole.
-use Rattle.std.proofs.Common.{ℕ, zero, suc, ◌+◌, ◌-◌, ◌≤◌, ◌<◌, ◌≡◌, refl, sym, ap, ◌∙◌, Bool, true, false, not, List, [], ◌∷◌, ◌++◌, arith, length, take, drop, zero-add, take_all, length-take, ltb-false}
+use Rattle.std.proofs.Common.{ℕ, zero, suc, ◌+◌, ◌-◌, ◌≤◌, ◌<◌, ◌≡◌, sym, ap, ◌∙◌, true, false, List, [], ◌∷◌, ◌++◌, arith, length, take, drop, zero-add, take_all, length-take, ltb-false}
 use Rattle.std.proofs.Math.Seq.{take-nil, take-append_seam}
 use Rattle.sets.specs.Lists.{overwritten}
 use Rattle.pages.specs.declared.page.Printed.{Printed}
@@ -13,14 +13,6 @@ next_bytes (suc from) most [] = take-nil most ∙ sym (take-nil (suc from + most
 next_bytes (suc from) most (x ∷ l) =
     let e : suc from + most ≡ suc (from + most) = omega arith in
     ap (λ m. x ∷ m) (next_bytes from most l) ∙ ap (λ n. take n (x ∷ l)) (sym e)
-
-pub not_true : (b : Bool) → not b ≡ true → b ≡ false
-not_true false e = refl
-not_true true e = sym e
-
-pub not_false : (b : Bool) → not b ≡ false → b ≡ true
-not_false true e = refl
-not_false false e = sym e
 
 -- what a call of `report` says of a text and a page of so many bytes, and what it leaves on the page
 module _ (l page after : List ℕ) (from : ℕ) (r : Printed) (value : r ≡ printed_of from (length page) l) (page_after : after ≡ overwritten (window from (length page) l) page) where
