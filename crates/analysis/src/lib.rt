@@ -1,5 +1,5 @@
 // What one search or one pass answers of a model text that has been read: the trace of a set, its reached states, one core by an order of its rules, and
-// what a log says of them. The arrays for the masks lie here, in three sizes: small models would spend most of their time clearing the largest.
+// what a log says of them.
 #![tactic(auto)]
 
 pub mod blame;

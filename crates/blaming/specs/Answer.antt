@@ -1,14 +1,12 @@
 -- What blame from a log answers to a text and a log of its states.
 -- From document 02, "Blame from a station's log". Assumes nothing: these are definitions.
-use Rattle.std.specs.Prelude.{ℕ, not, cond, List, ltb, length, get_or}
-use Rattle.models.specs.declared.model.Outcome.{Outcome}
+use Rattle.std.specs.Prelude.{ℕ, not, List, get_or}
+use Rattle.refusals.specs.Answers.{Answer, Outcome}
 use Rattle.models.specs.Written.{model_in}
 use Rattle.logs.specs.declared.blame.Blamed.{Blamed}
 use Rattle.logs.specs.Log.{is_log, blame_of}
 use Rattle.semantics.specs.Meaning.{init_met, start_met, step_met, bad_of}
 use Rattle.calls.specs.Answers.{rules_in, states_in, ◌or_else◌, refused_if, text_outcome, given}
-use Rattle.blaming.specs.declared.answer.BlameAnswer.{BlameAnswer}
-use Rattle.blaming.specs.declared.answer.BlameAnswer.TheVariants.{Refused, BreachAt, NoBreach}
 
 -- What a log says of the rules of a text's model, and of the states that break one of its properties.
 unfoldable pub blame_in : (text log : List ℕ) → Blamed
@@ -30,10 +28,6 @@ unfoldable pub blame_outcome : (text log : List ℕ) → Outcome
 unfolding ◌or_else◌ text_outcome log_outcome init_outcome
 blame_outcome text log = text_outcome text or_else log_outcome text log or_else init_outcome text log
 
--- Where the place is that of a state of the log, which has so many, there is a breach.
-unfoldable pub blamed_answer : ℕ → Blamed → BlameAnswer
-blamed_answer states b = cond (ltb b.place states) (BreachAt b.set b.place) (NoBreach b.set b.place)
-
-unfoldable pub blame_answer : (text log : List ℕ) → BlameAnswer
-unfolding given blame_outcome blamed_answer blame_in
-blame_answer text log = given Refused (blame_outcome text log) (blamed_answer (length log) (blame_in text log))
+unfoldable pub blame_answer : (text log : List ℕ) → Answer Blamed
+unfolding given blame_outcome blame_in
+blame_answer text log = given (blame_outcome text log) (blame_in text log)

@@ -1,5 +1,4 @@
 // The call that blames rules of a model text from a station's log.
 #![tactic(auto)]
 
-pub mod answer;
 pub mod blame;

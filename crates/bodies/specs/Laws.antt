@@ -1,3 +1,4 @@
 -- What is proved of the definitions of this crate.
+pub mod Answered
 pub mod Lines
 pub mod Ranges

@@ -8,6 +8,11 @@ pub record Placed (text : List ℕ) (p : LineStart) : Type 0 where
   pub within : p.at ≤ length text
   pub counted : p.line ≤ p.at + 1
 
+-- a line that begins at the place, and has so many bytes, has one at least and ends within the text
+pub record EndsWithin (text : List ℕ) (p : LineStart) (bytes : ℕ) : Type 0 where
+  pub some : 1 ≤ bytes
+  pub within : p.at + bytes ≤ length text
+
 -- a line of so many bytes begins at the place and ends within the text
 pub record Passes (text : List ℕ) (p : LineStart) (bytes : ℕ) : Type 0 where
   pub within : p.at + bytes ≤ length text

@@ -5,8 +5,7 @@ use Rattle.std.specs.Prelude.{ℕ, ◌^◌, ◌≡◌, Bool, true, false, cond, 
 use mir.Val.{bool_byte}
 use Rattle.sets.specs.Lists.{bytes_of, overwritten}
 use Rattle.sets.specs.Tabulated.{tabulate}
-use Rattle.models.specs.declared.model.Outcome.{Outcome}
-use Rattle.models.specs.declared.model.Outcome.TheVariants.{Accepted, Refused}
+use Rattle.refusals.specs.Answers.{Accepted, Answer, Given, Outcome, Refused, RefusedBy, outcome_of}
 use Rattle.models.specs.Reading.{read_model}
 use Rattle.models.specs.Written.{model_in}
 use Rattle.systems.specs.System.{System}
@@ -17,14 +16,8 @@ use Rattle.semantics.specs.Meaning.{system_of, judge}
 use Rattle.sorting.specs.declared.which.WhichList.{WhichList}
 use Rattle.sorting.specs.Which.{listed, of_kind}
 use Rattle.sorting.specs.declared.kinds.Kind.{Kind}
-use Rattle.calls.specs.declared.answers.JudgeAnswer.{JudgeAnswer}
-use Rattle.calls.specs.declared.answers.JudgeAnswer.TheVariants.{Refused as JudgeRefused, Holds, Broken}
-use Rattle.calls.specs.declared.answers.ReachedAnswer.{ReachedAnswer}
-use Rattle.calls.specs.declared.answers.ReachedAnswer.TheVariants.{Refused as ReachedRefused, Pairs}
-use Rattle.calls.specs.declared.answers.ListAnswer.{ListAnswer}
-use Rattle.calls.specs.declared.answers.ListAnswer.TheVariants.{Refused as ListRefused, Count}
-use Rattle.calls.specs.declared.answers.SetAnswer.{SetAnswer}
-use Rattle.calls.specs.declared.answers.SetAnswer.TheVariants.{Refused as SetRefused, Set}
+use Rattle.calls.specs.declared.verdict.Verdict.{Verdict}
+use Rattle.calls.specs.declared.verdict.Verdict.TheVariants.{Holds, Broken}
 
 -- ---- what a text means
 
@@ -86,7 +79,7 @@ refused_if false number = Accepted
 -- 1 to 9: as the text is read.
 unfoldable pub text_outcome : List ℕ → Outcome
 unfolding read_model
-text_outcome text = (read_model text).outcome
+text_outcome text = outcome_of (read_model text)
 
 -- 10: the judged set is 2^R or more.
 unfoldable pub set_outcome : List ℕ → ℕ → Outcome
@@ -120,54 +113,55 @@ list_outcome which text lent = text_outcome text or_else length_outcome (bytes_o
 
 -- ---- the answers
 
--- What a call gives: a refused one what `refuse` makes of the number and the line, an accepted one the answer.
-unfoldable pub given : {A : Type 0} → (ℕ → ℕ → A) → Outcome → A → A
-given refuse Accepted answer = answer
-given refuse (Refused number line) answer = refuse number line
+-- What a call gives: refused by the number and the line, or the answer.
+unfoldable pub given : {A : Type 0} → Outcome → A → Answer A
+given Accepted answer = Given answer
+given (Refused number line) answer = RefusedBy number line
 
 -- The lent bytes after a call that writes new ones: bytes past the new ones keep their content, and a refused call changes none.
 unfoldable pub after : Outcome → List ℕ → List ℕ → List ℕ
-unfolding given overwritten
-after o new lent = given (λ number line. lent) o (overwritten new lent)
+unfolding overwritten
+after Accepted new lent = overwritten new lent
+after (Refused number line) new lent = lent
 
 -- The verdict on a system, with its trace's length.
-unfoldable pub verdict_of : System → JudgeAnswer
+unfoldable pub verdict_of : System → Verdict
 unfolding holds trace_of
 verdict_of M = cond (holds M) Holds (Broken (length (trace_of M)))
 
 -- Judge a set, with lent bytes for the trace, one per state.
-unfoldable pub judge_answer : List ℕ → ℕ → List ℕ → JudgeAnswer
+unfoldable pub judge_answer : List ℕ → ℕ → List ℕ → Answer Verdict
 unfolding given judge_outcome verdict_of system_in
-judge_answer text S lent = given JudgeRefused (judge_outcome text S lent) (verdict_of (system_in text S))
+judge_answer text S lent = given (judge_outcome text S lent) (verdict_of (system_in text S))
 
 unfoldable pub judge_bytes : List ℕ → ℕ → List ℕ → List ℕ
 unfolding after judge_outcome trace_in
 judge_bytes text S lent = after (judge_outcome text S lent) (trace_in text S) lent
 
 -- Give the reached states of a set, with lent bytes for the marks, one per state.
-unfoldable pub reached_answer : List ℕ → ℕ → List ℕ → ReachedAnswer
+unfoldable pub reached_answer : List ℕ → ℕ → List ℕ → Answer ℕ
 unfolding given reached_outcome pairs_in
-reached_answer text S lent = given ReachedRefused (reached_outcome text S lent) (Pairs (pairs_in text S))
+reached_answer text S lent = given (reached_outcome text S lent) (pairs_in text S)
 
 unfoldable pub reached_bytes : List ℕ → ℕ → List ℕ → List ℕ
 unfolding after reached_outcome marks_in
 reached_bytes text S lent = after (reached_outcome text S lent) (marks_in text S) lent
 
 -- List the cores, or the cuts.
-unfoldable pub list_answer : WhichList → List ℕ → List ℕ → ListAnswer
+unfoldable pub list_answer : WhichList → List ℕ → List ℕ → Answer ℕ
 unfolding given list_outcome list_in
-list_answer which text lent = given ListRefused (list_outcome which text lent) (Count (length (list_in which text)))
+list_answer which text lent = given (list_outcome which text lent) (length (list_in which text))
 
 unfoldable pub list_bytes : WhichList → List ℕ → List ℕ → List ℕ
 unfolding after list_outcome list_in bytes_of
 list_bytes which text lent = after (list_outcome which text lent) (bytes_of (list_in which text)) lent
 
 -- Give MUST, MAY or the irrelevant rules.
-unfoldable pub kind_answer : Kind → List ℕ → SetAnswer
+unfoldable pub kind_answer : Kind → List ℕ → Answer ℕ
 unfolding given text_outcome kind_in
-kind_answer kind text = given SetRefused (text_outcome text) (Set (kind_in kind text))
+kind_answer kind text = given (text_outcome text) (kind_in kind text)
 
 -- A call gave the answer, and wrote the new bytes over the lent ones and nothing else.
-pub record Gives {A : Type 0} (answer : A) (new lent : List ℕ) (answered : A) (bytes : List ℕ) : Type 0 where
-  pub says : answered ≡ answer
+pub record Gives {A : Type 0} (answer : A) (new lent : List ℕ) (answered : Answer A) (bytes : List ℕ) : Type 0 where
+  pub says : answered ≡ Given answer
   pub writes : bytes ≡ overwritten new lent

@@ -1,6 +1,7 @@
 -- What demand 1 of the mission says of the calls: each is refused by the first fitting number, and then every other part of the answer is 0 and no
 -- lent byte has changed; where no number fits it is accepted. The numbers of the text are those of `Rattle.models.specs.Refusals`; the calls add
 -- theirs. The theorems are in `Demands`. From document 01, "When a call is turned away". Assumes nothing: these are definitions.
+use Rattle.packing.specs.declared.parts.Parts.{Parts}
 use Rattle.std.specs.Prelude.{ℕ, ◌+◌, ◌-◌, ◌*◌, ◌%◌, ◌^◌, ◌≤◌, ◌<◌, ◌≡◌, ◌↔◌, ◌⊎◌, false, List, [], length, get_or}
 use Rattle.sets.specs.Orders.{IsOrder}
 use Rattle.models.specs.Refusals.{FitsAt, ComesBefore}
@@ -10,16 +11,11 @@ use Rattle.logs.specs.Log.{IsLog}
 use Rattle.semantics.specs.Meaning.{init_met}
 use Rattle.sorting.specs.declared.which.WhichList.{WhichList}
 use Rattle.sorting.specs.declared.kinds.Kind.{Kind}
-use Rattle.calls.specs.declared.answers.JudgeAnswer.TheVariants.{Refused as JudgeRefused}
-use Rattle.calls.specs.declared.answers.ReachedAnswer.TheVariants.{Refused as ReachedRefused}
-use Rattle.calls.specs.declared.answers.ListAnswer.TheVariants.{Refused as ListRefused}
-use Rattle.calls.specs.declared.answers.SetAnswer.TheVariants.{Refused as SetRefused}
+use Rattle.refusals.specs.Answers.{RefusedBy, Answer}
 use Rattle.calls.specs.Answers.{rules_in, states_in, system_in, list_in, judge_answer, judge_bytes, reached_answer, reached_bytes, list_answer, list_bytes, kind_answer}
-use Rattle.preferences.specs.declared.answer.OneCoreAnswer.TheVariants.{Refused as OneCoreRefused}
 use Rattle.preferences.specs.Answer.{one_core_answer}
-use Rattle.blaming.specs.declared.answer.BlameAnswer.TheVariants.{Refused as BlameRefused}
 use Rattle.blaming.specs.Answer.{blame_answer}
-use Rattle.packing.specs.Packing.{Parts, refused, judge_parts, reached_parts, list_parts, set_parts, one_core_parts, blame_parts, breach_number, packed}
+use Rattle.packing.specs.Packing.{refused, judge_parts, reached_parts, list_parts, set_parts, one_core_parts, blame_parts, breach_number, packed}
 
 -- ---- the numbers of each call
 
@@ -88,25 +84,25 @@ pub record FirstOf (Fits : ℕ → ℕ → Type 0) (number line : ℕ) : Type 0 
 -- ---- the demand
 
 -- A call that the numbers `Fits` can refuse, with these lent bytes, gave the answer and left the bytes.
-pub record Refusals {A : Type 0} (Fits : ℕ → ℕ → Type 0) (refuse : ℕ → ℕ → A) (parts : A → Parts) (lent : List ℕ) (answer : A) (bytes : List ℕ) : Type 0 where
+pub record Refusals {A : Type 0} (Fits : ℕ → ℕ → Type 0) (parts : Answer A → Parts) (lent : List ℕ) (answer : Answer A) (bytes : List ℕ) : Type 0 where
   -- It is refused by a number with its line exactly when this is the first that fits.
-  pub first : (number line : ℕ) → (answer ≡ refuse number line) ↔ FirstOf Fits number line
+  pub first : (number line : ℕ) → (answer ≡ RefusedBy number line) ↔ FirstOf Fits number line
   -- Where no number fits it is accepted, and only there.
-  pub accepted : ((number line : ℕ) → ¬ (answer ≡ refuse number line)) ↔ ((number line : ℕ) → ¬ Fits number line)
+  pub accepted : ((number line : ℕ) → ¬ (answer ≡ RefusedBy number line)) ↔ ((number line : ℕ) → ¬ Fits number line)
   -- Refused, every other part of the answer is 0, and no lent byte has changed.
-  pub zero : (number line : ℕ) → answer ≡ refuse number line → parts answer ≡ refused number line
-  pub kept : (number line : ℕ) → answer ≡ refuse number line → bytes ≡ lent
+  pub zero : (number line : ℕ) → answer ≡ RefusedBy number line → parts answer ≡ refused number line
+  pub kept : (number line : ℕ) → answer ≡ RefusedBy number line → bytes ≡ lent
 
 -- Every call, for a text, every set and all lent bytes.
 pub record Demand1 (text : List ℕ) : Type 0 where
-  pub judge : (S : ℕ) (lent : List ℕ) → Refusals (JudgeFits text S lent) JudgeRefused judge_parts lent (judge_answer text S lent) (judge_bytes text S lent)
+  pub judge : (S : ℕ) (lent : List ℕ) → Refusals (JudgeFits text S lent) judge_parts lent (judge_answer text S lent) (judge_bytes text S lent)
   pub reached : (S : ℕ) (lent : List ℕ)
-      → Refusals (ReachedFits text S lent) ReachedRefused reached_parts lent (reached_answer text S lent) (reached_bytes text S lent)
+      → Refusals (ReachedFits text S lent) reached_parts lent (reached_answer text S lent) (reached_bytes text S lent)
   pub list : (which : WhichList) (lent : List ℕ)
-      → Refusals (ListFits which text lent) ListRefused list_parts lent (list_answer which text lent) (list_bytes which text lent)
-  pub kind : (kind : Kind) → Refusals (FitsAt text) SetRefused set_parts [] (kind_answer kind text) []
-  pub one_core : (order : List ℕ) → Refusals (OneCoreFits text order) OneCoreRefused one_core_parts [] (one_core_answer text order) []
-  pub blame : (log : List ℕ) → Refusals (BlameFits text log) BlameRefused blame_parts [] (blame_answer text log) []
+      → Refusals (ListFits which text lent) list_parts lent (list_answer which text lent) (list_bytes which text lent)
+  pub kind : (kind : Kind) → Refusals (FitsAt text) set_parts [] (kind_answer kind text) []
+  pub one_core : (order : List ℕ) → Refusals (OneCoreFits text order) one_core_parts [] (one_core_answer text order) []
+  pub blame : (log : List ℕ) → Refusals (BlameFits text log) blame_parts [] (blame_answer text log) []
 
 -- ---- the same of the exported calls
 
@@ -127,4 +123,4 @@ pub record HostDemand1 (text : List ℕ) : Type 0 where
   pub one_core : (order : List ℕ) → HostRefusals (OneCoreFits text order) [] (packed (one_core_parts (one_core_answer text order))) []
   pub blame : (log : List ℕ) → HostRefusals (BlameFits text log) [] (packed (blame_parts (blame_answer text log))) []
   -- A place has no room for a number: codremif_breach tells a refusal by 2^64 - 1.
-  pub breach : (log : List ℕ) (number line : ℕ) → FirstOf (BlameFits text log) number line → breach_number (blame_answer text log) ≡ 2 ^ 64 - 1
+  pub breach : (log : List ℕ) (number line : ℕ) → FirstOf (BlameFits text log) number line → breach_number (length log) (blame_answer text log) ≡ 2 ^ 64 - 1

@@ -7,12 +7,9 @@ use Rattle.sets.specs.Demand3.{Demand3}
 use Rattle.systems.specs.System.{Breach}
 use Rattle.sorting.specs.declared.which.WhichList.TheVariants.{Cores, Cuts}
 use Rattle.sorting.specs.declared.kinds.Kind.TheVariants.{Must}
-use Rattle.calls.specs.declared.answers.JudgeAnswer.{JudgeAnswer}
-use Rattle.calls.specs.declared.answers.JudgeAnswer.TheVariants.{Holds}
-use Rattle.calls.specs.declared.answers.ListAnswer.{ListAnswer}
-use Rattle.calls.specs.declared.answers.ListAnswer.TheVariants.{Refused as ListRefused, Count}
-use Rattle.calls.specs.declared.answers.SetAnswer.{SetAnswer}
-use Rattle.calls.specs.declared.answers.SetAnswer.TheVariants.{Set}
+use Rattle.calls.specs.declared.verdict.Verdict.{Verdict}
+use Rattle.refusals.specs.Answers.{Answer, Given, RefusedBy, answer_of}
+use Rattle.calls.specs.declared.verdict.Verdict.TheVariants.{Holds}
 use Rattle.codremif.specs.declared.together.Together.{Together}
 use Rattle.calls.specs.Answers.{rules_in, system_in, judge_answer, list_answer, list_bytes, kind_answer}
 use Rattle.packing.specs.Packing.{judge_parts, list_parts, set_parts, packed}
@@ -29,9 +26,9 @@ pub record Telling (J L M : Type 0) : Type 0 where
   pub set : ℕ → M
 
 -- The calls in Rattle.
-unfoldable pub in_rattle : Telling JudgeAnswer ListAnswer SetAnswer
+unfoldable pub in_rattle : Telling (Answer Verdict) (Answer ℕ) (Answer ℕ)
 unfolding judge_answer
-in_rattle = record { judge = judge_answer; holds = Holds; count = Count; short = ListRefused 11 0; set = Set }
+in_rattle = record { judge = judge_answer; holds = Given Holds; count = Given; short = RefusedBy 11 0; set = Given }
 
 -- The exported calls, by their 64-bit numbers.
 unfoldable pub for_hosts : Telling ℕ ℕ ℕ
@@ -84,7 +81,7 @@ pub record TextDemand3 {J L M : Type 0} (w : Telling J L M) (text : List ℕ) (a
 -- ---- what the calls give
 
 -- What the calls for the cores, the cuts and MUST give, accepted or refused, is what their definitions say.
-pub record AsCalled (text : List ℕ) (a : Asked ListAnswer SetAnswer) : Type 0 where
+pub record AsCalled (text : List ℕ) (a : Asked (Answer ℕ) (Answer ℕ)) : Type 0 where
   pub cores : a.cores_answer ≡ list_answer Cores text a.cores_lent
   pub cores_written : a.cores_bytes ≡ list_bytes Cores text a.cores_lent
   pub cuts : a.cuts_answer ≡ list_answer Cuts text a.cuts_lent
@@ -92,15 +89,15 @@ pub record AsCalled (text : List ℕ) (a : Asked ListAnswer SetAnswer) : Type 0 
   pub must : a.must_answer ≡ kind_answer Must text
 
 -- The same as a record of what `codremif::together::ask_all` lent and gave.
-unfoldable pub asked : Together → (cores_lent cores_bytes cuts_lent cuts_bytes : List ℕ) → Asked ListAnswer SetAnswer
+unfoldable pub asked : Together → (cores_lent cores_bytes cuts_lent cuts_bytes : List ℕ) → Asked (Answer ℕ) (Answer ℕ)
 asked r cores_lent cores_bytes cuts_lent cuts_bytes = record {
   cores_lent = cores_lent;
-  cores_answer = r.cores;
+  cores_answer = answer_of r.cores;
   cores_bytes = cores_bytes;
   cuts_lent = cuts_lent;
-  cuts_answer = r.cuts;
+  cuts_answer = answer_of r.cuts;
   cuts_bytes = cuts_bytes;
-  must_answer = r.must;
+  must_answer = answer_of r.must;
 }
 
 -- What codremif_cores, codremif_cuts and codremif_must give for a text and these lent bytes.

@@ -1,5 +1,5 @@
 -- The demands of the mission, as theorems about what exactly the calls answer and write. Nothing is assumed.
--- To believe them, read these files below crates/ in this order (lines without imports and blank lines, 1,958 in all). What is proved of their
+-- To believe them, read these files below crates/ in this order (lines without imports and blank lines, 1,990 in all). What is proved of their
 -- definitions stands in `Laws`, of specs/ or of proofs/, and need not be read, and neither need the functions that compute (the reading of a text,
 -- the verdict, the lists): the theorems say what they give.
 --   a number as a set of rules or of letters           sets/specs/Bit                8
@@ -35,7 +35,9 @@
 --   what each call answers and writes                  calls/specs/Answers         117
 --   what finding one core answers                      preferences/specs/Answer     20
 --   what blame from a log answers                      blaming/specs/Answer         24
---   a list in bytes, and the first set that fits       lookup/specs/Search          29
+--   the number of each reason to refuse a call         refusals/specs/Numbers       18
+--   an answer, refused or given                        refusals/specs/Answers       18
+--   a list in bytes, and the first set that fits       lookup/specs/Search          25
 --   where a part of a slice lies                       slices/specs/Address         11
 --   what two lists say of a set, and the witness       lookup/specs/Suffices        54
 --   an answer as one 64-bit number                     packing/specs/Packing        88
@@ -52,11 +54,9 @@
 --   the starred examples                               codremif/specs/Examples     112
 use Rattle.std.specs.Prelude.{ℕ, ◌^◌, ◌<◌, ◌≡◌}
 use mathlib.Core.List.{List, Memᴰ}
-use Rattle.models.specs.declared.model.Outcome.TheVariants.{Accepted}
+use Rattle.refusals.specs.Answers.{Accepted, Answer}
 use Rattle.models.specs.Written.{Described, Legal, written_model}
 use Rattle.semantics.specs.Meaning.{system_of}
-use Rattle.calls.specs.declared.answers.ListAnswer.{ListAnswer}
-use Rattle.calls.specs.declared.answers.SetAnswer.{SetAnswer}
 use Rattle.calls.specs.Answers.{rules_in, system_in, text_outcome}
 use Rattle.codremif.specs.Demand1.{Demand1, HostDemand1}
 use Rattle.codremif.specs.Demand2.{Demand2}
@@ -99,7 +99,7 @@ pub demand2 : (text : List ℕ) → text_outcome text ≡ Accepted → (S : ℕ)
 demand2 = judging_meets_demand2
 
 -- Demand 3: for every accepted text, of whatever the three calls were lent and gave. It is the promise of `codremif::together::ask_all`.
-pub demand3 : (text : List ℕ) → text_outcome text ≡ Accepted → {a : Asked ListAnswer SetAnswer} → AsCalled text a → TextDemand3 in_rattle text a
+pub demand3 : (text : List ℕ) → text_outcome text ≡ Accepted → {a : Asked (Answer ℕ) (Answer ℕ)} → AsCalled text a → TextDemand3 in_rattle text a
 demand3 = calls_meet_demand3
 
 -- The same of the exported calls, by their 64-bit answers and their lent bytes.

@@ -6,11 +6,10 @@ use Rattle.sets.specs.Lists.{bytes_of}
 use Rattle.lines.specs.Bytes.{ended_lines}
 use Rattle.sorting.specs.declared.which.WhichList.{WhichList}
 use Rattle.sorting.specs.declared.which.WhichList.TheVariants.{Cores, Cuts}
-use Rattle.calls.specs.declared.answers.JudgeAnswer.{JudgeAnswer}
-use Rattle.calls.specs.declared.answers.JudgeAnswer.TheVariants.{Holds, Broken}
-use Rattle.calls.specs.declared.answers.ListAnswer.TheVariants.{Count}
+use Rattle.calls.specs.declared.verdict.Verdict.{Verdict}
+use Rattle.refusals.specs.Answers.{Given}
+use Rattle.calls.specs.declared.verdict.Verdict.TheVariants.{Holds, Broken}
 use Rattle.sorting.specs.declared.kinds.Kind.TheVariants.{Must}
-use Rattle.calls.specs.declared.answers.SetAnswer.TheVariants.{Set}
 use Rattle.calls.specs.Answers.{Gives, judge_answer, judge_bytes, list_answer, list_bytes, kind_answer}
 
 -- ---- the form of a case
@@ -117,7 +116,7 @@ table =
 -- ---- what the theorem says of a case
 
 -- The verdict that goes with a trace.
-unfoldable pub verdict_for : List ℕ → JudgeAnswer
+unfoldable pub verdict_for : List ℕ → Verdict
 verdict_for [] = Holds
 verdict_for (s ∷ l) = Broken (length (s ∷ l))
 
@@ -131,5 +130,5 @@ pub record Answered (c : Case) : Type 0 where
   pub judged : (j : Judging) → Memᴰ j c.judged → (lent : List ℕ) → length j.trace ≤ length lent
       → Gives (verdict_for j.trace) j.trace lent (judge_answer c.text j.set lent) (judge_bytes c.text j.set lent)
   pub lists : (which : WhichList) (lent : List ℕ) → 2 * length (expected_list which c) ≤ length lent
-      → Gives (Count (length (expected_list which c))) (bytes_of (expected_list which c)) lent (list_answer which c.text lent) (list_bytes which c.text lent)
-  pub must : kind_answer Must c.text ≡ Set c.must
+      → Gives (length (expected_list which c)) (bytes_of (expected_list which c)) lent (list_answer which c.text lent) (list_bytes which c.text lent)
+  pub must : kind_answer Must c.text ≡ Given c.must

@@ -1,13 +1,13 @@
 -- What is to hold of one core by an order of the rules, for an accepted text: a named part for each sentence.
 -- From document 02, "One core, in my order of preference". The theorem is in `Demands`. Assumes nothing: these are definitions.
-use Rattle.std.specs.Prelude.{ℕ, ◌+◌, ◌*◌, ◌^◌, ◌≤◌, ◌≡◌, List}
+use Rattle.std.specs.Prelude.{ℕ, ◌+◌, ◌*◌, ◌^◌, ◌≤◌, ◌≡◌, List, Some, None}
+use Rattle.sets.specs.declared.one_core.OneCore.{OneCore}
 use Rattle.sets.specs.Bit.{full}
 use Rattle.sets.specs.Orders.{IsOrder, StandLast, outside_first}
 use Rattle.lookup.specs.Search.{Stands}
 use Rattle.sorting.specs.declared.which.WhichList.TheVariants.{Cores}
 use Rattle.calls.specs.Answers.{rules_in}
-use Rattle.preferences.specs.declared.answer.OneCoreAnswer.{OneCoreAnswer}
-use Rattle.preferences.specs.declared.answer.OneCoreAnswer.TheVariants.{CoreFound, NoCore}
+use Rattle.refusals.specs.Answers.{Answer, Given}
 use Rattle.preferences.specs.Answer.{one_core_answer}
 use Rattle.packing.specs.Packing.{one_core_parts, packed}
 use Rattle.codremif.specs.Suffices.{TextTelling, WroteList}
@@ -19,8 +19,12 @@ pub record OneCoreTelling (A : Type 0) : Type 0 where
   pub no_core : (judgements : ℕ) → A
 
 -- The call in Rattle, and the exported one by its 64-bit number.
-unfoldable pub one_core_by_answers : OneCoreTelling OneCoreAnswer
-one_core_by_answers = record { answer = one_core_answer; core = CoreFound; no_core = NoCore }
+unfoldable pub one_core_by_answers : OneCoreTelling (Answer OneCore)
+one_core_by_answers = record {
+  answer = one_core_answer;
+  core = λ C judgements. Given (record { core = Some C; judgements = judgements });
+  no_core = λ judgements. Given (record { core = None; judgements = judgements });
+}
 
 unfoldable pub one_core_by_hosts : OneCoreTelling ℕ
 one_core_by_hosts = record {

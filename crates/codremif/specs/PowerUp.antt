@@ -9,7 +9,8 @@ use Rattle.systems.specs.System.{System}
 use Rattle.semantics.specs.Meaning.{init_met, start_met, step_of, bad_of}
 use Rattle.sorting.specs.declared.which.WhichList.{WhichList}
 use Rattle.sorting.specs.declared.kinds.Kind.{Kind}
-use Rattle.calls.specs.declared.answers.JudgeAnswer.TheVariants.{Holds, Broken}
+use Rattle.calls.specs.declared.verdict.Verdict.TheVariants.{Holds, Broken}
+use Rattle.refusals.specs.Answers.{Given}
 use Rattle.calls.specs.Answers.{rules_in, states_in, system_in, judge_answer, judge_bytes, reached_answer, reached_bytes, list_answer, list_bytes, kind_answer}
 use Rattle.preferences.specs.Answer.{one_core_answer}
 use Rattle.blaming.specs.Answer.{blame_answer}
@@ -44,9 +45,9 @@ pub record PowerUp (text : List ℕ) : Type 0 where
   pub starts : (S s : ℕ) → ((system_in text S).start s ≡ true) ↔ MeetsAtStart text S s
   -- So judging a set shows one state exactly when such a state breaks a property,
   pub at_once : (S : ℕ) → S < 2 ^ rules_in text → (lent : List ℕ) → 1 ≤ length lent
-      → (judge_answer text S lent ≡ Broken 1) ↔ ((s : ℕ) × (s < states_in text) × MeetsAtStart text S s × (bad_of (model_in text) s ≡ true))
+      → (judge_answer text S lent ≡ Given (Broken 1)) ↔ ((s : ℕ) × (s < states_in text) × MeetsAtStart text S s × (bad_of (model_in text) s ≡ true))
   -- and a set that no state meets at the start is judged to hold.
-  pub no_start : (S : ℕ) → S < 2 ^ rules_in text → ((s : ℕ) → s < states_in text → ¬ MeetsAtStart text S s) → (lent : List ℕ) → judge_answer text S lent ≡ Holds
+  pub no_start : (S : ℕ) → S < 2 ^ rules_in text → ((s : ℕ) → s < states_in text → ¬ MeetsAtStart text S s) → (lent : List ℕ) → judge_answer text S lent ≡ Given Holds
   -- "a missing one counts as `1`."
   pub as_one : SameAnswers (starts_written_in text) text
   -- "an accepted model without start parts reports as before": each set has the system that it had.

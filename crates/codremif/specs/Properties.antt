@@ -8,7 +8,7 @@ use Rattle.sets.specs.Tabulated.{tabulate}
 use Rattle.sets.specs.Demand3.{Lists}
 use Rattle.sets.specs.Joint.{UnionOfCores}
 use Rattle.lines.specs.Written.{Within}
-use Rattle.models.specs.declared.model.Outcome.TheVariants.{Accepted}
+use Rattle.refusals.specs.Answers.{Accepted}
 use Rattle.models.specs.Written.{written_model, model_in}
 use Rattle.models.specs.Changed.{by_property}
 use Rattle.systems.specs.System.{Earlier}

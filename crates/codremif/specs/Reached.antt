@@ -2,7 +2,7 @@
 -- each sentence. From document 02, "Stop when everything is reached". The theorem is in `Demands`. Assumes nothing: these are definitions.
 use Rattle.std.specs.Prelude.{ℕ, ◌*◌, ◌^◌, ◌≤◌, ◌<◌, ◌≡◌, ◌⊎◌, List, eqb, length, get_or, drop}
 use Rattle.searches.specs.Collecting.{Collecting}
-use Rattle.calls.specs.declared.answers.ReachedAnswer.TheVariants.{Pairs}
+use Rattle.refusals.specs.Answers.{Given}
 use Rattle.calls.specs.Answers.{rules_in, states_in, system_in, reached_answer, reached_bytes}
 use Rattle.packing.specs.Packing.{reached_parts, packed}
 
@@ -23,6 +23,6 @@ pub record ReachedStates {A : Type 0} (told : ℕ → A) (text : List ℕ) (S : 
 -- Of the call in Rattle, and of the exported one by its 64-bit answer.
 pub record EverythingReached (text : List ℕ) : Type 0 where
   pub in_rattle : (S : ℕ) → S < 2 ^ rules_in text → (lent : List ℕ) → states_in text ≤ length lent
-      → ReachedStates Pairs text S lent (reached_answer text S lent) (reached_bytes text S lent)
+      → ReachedStates Given text S lent (reached_answer text S lent) (reached_bytes text S lent)
   pub for_hosts : (S : ℕ) → S < 2 ^ rules_in text → (lent : List ℕ) → states_in text ≤ length lent
       → ReachedStates (λ n. 65536 * n) text S lent (packed (reached_parts (reached_answer text S lent))) (reached_bytes text S lent)

@@ -7,14 +7,13 @@ use Rattle.sets.specs.Demand3.{◌∈◌}
 use Rattle.sets.specs.Kinds.{Sorted}
 use Rattle.exprs.specs.Expr.{Expr}
 use Rattle.lines.specs.Written.{LegalExpr, LegalStart}
-use Rattle.models.specs.declared.model.Outcome.TheVariants.{Accepted}
+use Rattle.refusals.specs.Answers.{Accepted, Given}
 use Rattle.models.specs.Written.{Described, Legal, names_of, written_model, model_in}
 use Rattle.models.specs.Changed.{keeping, replacing}
 use Rattle.sorting.specs.declared.which.WhichList.TheVariants.{Cores, Cuts}
 use Rattle.sorting.specs.declared.kinds.Kind.{Kind}
 use Rattle.sorting.specs.declared.kinds.Kind.TheVariants.{Must, May, Irrelevant}
-use Rattle.calls.specs.declared.answers.JudgeAnswer.TheVariants.{Holds}
-use Rattle.calls.specs.declared.answers.SetAnswer.TheVariants.{Set}
+use Rattle.calls.specs.declared.verdict.Verdict.TheVariants.{Holds}
 use Rattle.calls.specs.Answers.{rules_in, list_in, kind_in, text_outcome, judge_answer, kind_answer}
 use Rattle.packing.specs.Packing.{set_parts, packed}
 
@@ -27,7 +26,7 @@ InOneOf sets i = (S : ℕ) × (S ∈ sets) × (has S i ≡ true)
 -- What the calls for MUST, MAY and the irrelevant rules answer.
 pub record SortedRules (text : List ℕ) : Type 0 where
   -- Each call answers the set of its rules, also as a 64-bit number.
-  pub given : (kind : Kind) → kind_answer kind text ≡ Set (kind_in kind text)
+  pub given : (kind : Kind) → kind_answer kind text ≡ Given (kind_in kind text)
   pub packed_set : (kind : Kind) → packed (set_parts (kind_answer kind text)) ≡ 65536 * kind_in kind text
   -- Each rule is in exactly one of MUST, MAY and irrelevant.
   pub sorted : Sorted (rules_in text) (kind_in Must text) (kind_in May text) (kind_in Irrelevant text)
@@ -85,7 +84,7 @@ pub record Replaceable (text : List ℕ) (i : ℕ) (step : Expr) (start : Option
   -- Its written form is accepted.
   pub accepted : text_outcome (written_model (replacing i step start (model_in text))) ≡ Accepted
   -- Judging all rules of its written form answers that they hold, whatever bytes are lent.
-  pub holds : (lent : List ℕ) → let text' = written_model (replacing i step start (model_in text)) in judge_answer text' (full (rules_in text')) lent ≡ Holds
+  pub holds : (lent : List ℕ) → let text' = written_model (replacing i step start (model_in text)) in judge_answer text' (full (rules_in text')) lent ≡ Given Holds
 
 -- ---- all of it
 
@@ -95,5 +94,5 @@ pub record Relied (text : List ℕ) : Type 0 where
   pub reducible : (i : ℕ) → InOneOf (list_in Cores text) i → Reducible text
   -- "If the property holds, replacing the expression of one rule outside MUST by any legal one leaves it holding": the step part, the start part, or both; a
   -- start part may be added or left out.
-  pub replaceable : (lent : List ℕ) → judge_answer text (full (rules_in text)) lent ≡ Holds → (i : ℕ) → i < rules_in text → has (kind_in Must text) i ≡ false
+  pub replaceable : (lent : List ℕ) → judge_answer text (full (rules_in text)) lent ≡ Given Holds → (i : ℕ) → i < rules_in text → has (kind_in Must text) i ≡ false
       → (step : Expr) → LegalExpr (model_in text).vars true step → (start : Option Expr) → LegalStart (model_in text).vars start → Replaceable text i step start

@@ -1,16 +1,14 @@
 -- What is to hold of the quick answer in the configuration screen: for any set and any two lists, and for the two lists of an accepted text.
 -- From document 02, "Quick answer in the configuration screen". The theorem is in `Demands`. Assumes nothing: these are definitions.
 use Rattle.std.specs.Prelude.{ℕ, suc, ◌+◌, ◌-◌, ◌*◌, ◌^◌, ◌≤◌, ◌<◌, ◌≡◌, ◌↔◌, ◌⊎◌, List, [], ◌∷◌, length, get_or, take}
-use Rattle.models.specs.declared.model.Outcome.TheVariants.{Accepted}
 use Rattle.sorting.specs.declared.which.WhichList.{WhichList}
 use Rattle.sorting.specs.declared.which.WhichList.TheVariants.{Cores, Cuts}
-use Rattle.lookup.specs.declared.answer.SufficesAnswer.{SufficesAnswer}
-use Rattle.lookup.specs.declared.answer.SufficesAnswer.TheVariants.{Refused as SufficesRefused, CoreInside, CutApart, Unlisted}
+use Rattle.refusals.specs.Answers.{Accepted, Answer, RefusedBy, Given}
+use Rattle.lookup.specs.declared.answer.Suffices.{Suffices}
+use Rattle.lookup.specs.declared.answer.Suffices.TheVariants.{CoreInside, CutApart, Unlisted}
 use Rattle.lookup.specs.Suffices.{suffices_answer, witness_of, SufficesTelling, by_answer, SaidOf}
-use Rattle.calls.specs.declared.answers.JudgeAnswer.{JudgeAnswer}
-use Rattle.calls.specs.declared.answers.JudgeAnswer.TheVariants.{Broken}
-use Rattle.calls.specs.declared.answers.ListAnswer.{ListAnswer}
-use Rattle.calls.specs.declared.answers.SetAnswer.{SetAnswer}
+use Rattle.calls.specs.declared.verdict.Verdict.{Verdict}
+use Rattle.calls.specs.declared.verdict.Verdict.TheVariants.{Broken}
 use Rattle.calls.specs.Answers.{rules_in, text_outcome, list_answer, list_bytes}
 use Rattle.packing.specs.Packing.{list_parts, suffices_parts, witness_place, packed}
 use Rattle.codremif.specs.Demand3.{Telling, in_rattle, for_hosts}
@@ -22,7 +20,7 @@ pub record HostSaid : Type 0 where
   pub suffices : ℕ
   pub witness : ℕ
 
-unfoldable pub host_said : SufficesAnswer → HostSaid
+unfoldable pub host_said : Answer Suffices → HostSaid
 host_said a = record { suffices = packed (suffices_parts a); witness = witness_place a }
 
 -- How the two exported calls tell an answer.
@@ -40,10 +38,10 @@ bytes_at list place = get_or list place 0 ∷ get_or list (suc place) 0 ∷ []
 
 -- The witness that is returned, where the set was answered so.
 pub record Witnessed (S : ℕ) (cores cuts : List ℕ) : Type 0 where
-  pub inside : (place : ℕ) → suffices_answer S cores cuts ≡ CoreInside place → witness_of S cores cuts ≡ bytes_at cores place
-  pub apart : (place : ℕ) → suffices_answer S cores cuts ≡ CutApart place → witness_of S cores cuts ≡ bytes_at cuts place
-  pub unlisted : suffices_answer S cores cuts ≡ Unlisted → witness_of S cores cuts ≡ []
-  pub refused : suffices_answer S cores cuts ≡ SufficesRefused 12 0 → witness_of S cores cuts ≡ []
+  pub inside : (place : ℕ) → suffices_answer S cores cuts ≡ Given (CoreInside place) → witness_of S cores cuts ≡ bytes_at cores place
+  pub apart : (place : ℕ) → suffices_answer S cores cuts ≡ Given (CutApart place) → witness_of S cores cuts ≡ bytes_at cuts place
+  pub unlisted : suffices_answer S cores cuts ≡ Given Unlisted → witness_of S cores cuts ≡ []
+  pub refused : suffices_answer S cores cuts ≡ RefusedBy 12 0 → witness_of S cores cuts ≡ []
 
 -- ---- the lists of a text
 
@@ -53,8 +51,8 @@ pub record TextTelling (J L M : Type 0) : Type 0 where
   pub broken : ℕ → J
   pub list : WhichList → List ℕ → List ℕ → L
 
-unfoldable pub text_by_answers : TextTelling JudgeAnswer ListAnswer SetAnswer
-text_by_answers = record { calls = in_rattle; broken = Broken; list = list_answer }
+unfoldable pub text_by_answers : TextTelling (Answer Verdict) (Answer ℕ) (Answer ℕ)
+text_by_answers = record { calls = in_rattle; broken = λ n. Given (Broken n); list = list_answer }
 
 unfoldable pub text_by_hosts : TextTelling ℕ ℕ ℕ
 text_by_hosts = record { calls = for_hosts; broken = λ n. 65536 * n; list = λ which text lent. packed (list_parts (list_answer which text lent)) }

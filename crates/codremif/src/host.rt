@@ -1,5 +1,5 @@
 // The calls for a C host: numbers and byte slices only. Crate `codremif_c` exports each under its name; a slice is a pointer and a length to the host.
-ghost use Rattle.std.specs.Prelude.{◌≡◌};
+ghost use Rattle.std.specs.Prelude.{◌≡◌, length};
 ghost use Rattle.sorting.specs.declared.which.WhichList.TheVariants.{Cores, Cuts};
 ghost use Rattle.sorting.specs.declared.kinds.Kind.TheVariants.{Must, May, Irrelevant};
 ghost use Rattle.lookup.specs.Suffices.{suffices_answer};
@@ -15,7 +15,7 @@ pub fn codremif_judge(text: &[u8], set: u32, trace: &mut [u8]) -> u64
     ensures value { result ≡ packed (judge_parts (judge_answer text.now set trace.old)) }
     ensures trace_after { trace.new ≡ judge_bytes text.now set trace.old }
 {
-    packing::answers::pack_judge(calls::judging::judge(text, set, trace))
+    packing::answers::pack(calls::judging::judge(text, set, trace))
 }
 
 // Which states a set can reach: a byte for each state, and how many pairs of states were tried.
@@ -23,67 +23,67 @@ pub fn codremif_reached(text: &[u8], set: u32, marks: &mut [u8]) -> u64
     ensures value { result ≡ packed (reached_parts (reached_answer text.now set marks.old)) }
     ensures marks_after { marks.new ≡ reached_bytes text.now set marks.old }
 {
-    packing::answers::pack_reached(calls::reaching::reach(text, set, marks))
+    packing::answers::pack(calls::reaching::reach(text, set, marks))
 }
 
 pub fn codremif_cores(text: &[u8], sets: &mut [u8]) -> u64
     ensures value { result ≡ packed (list_parts (list_answer Cores text.now sets.old)) }
     ensures sets_after { sets.new ≡ list_bytes Cores text.now sets.old }
 {
-    packing::answers::pack_list(calls::listing::list(text, WhichList::Cores, sets))
+    packing::answers::pack(calls::listing::list(text, WhichList::Cores, sets))
 }
 
 pub fn codremif_cuts(text: &[u8], sets: &mut [u8]) -> u64
     ensures value { result ≡ packed (list_parts (list_answer Cuts text.now sets.old)) }
     ensures sets_after { sets.new ≡ list_bytes Cuts text.now sets.old }
 {
-    packing::answers::pack_list(calls::listing::list(text, WhichList::Cuts, sets))
+    packing::answers::pack(calls::listing::list(text, WhichList::Cuts, sets))
 }
 
 pub fn codremif_must(text: &[u8]) -> u64
     ensures { result ≡ packed (set_parts (kind_answer Must text.now)) }
 {
-    packing::answers::pack_set(calls::kinds::give_must(text))
+    packing::answers::pack(calls::kinds::give_must(text))
 }
 
 pub fn codremif_may(text: &[u8]) -> u64
     ensures { result ≡ packed (set_parts (kind_answer May text.now)) }
 {
-    packing::answers::pack_set(calls::kinds::give(text, Kind::May))
+    packing::answers::pack(calls::kinds::give(text, Kind::May))
 }
 
 pub fn codremif_irr(text: &[u8]) -> u64
     ensures { result ≡ packed (set_parts (kind_answer Irrelevant text.now)) }
 {
-    packing::answers::pack_set(calls::kinds::give(text, Kind::Irrelevant))
+    packing::answers::pack(calls::kinds::give(text, Kind::Irrelevant))
 }
 
 // One core, by an order of the rules, dearest last; and how many judgements were made.
 pub fn codremif_one_core(text: &[u8], order: &[u8]) -> u64
     ensures { result ≡ packed (one_core_parts (one_core_answer text.now order.now)) }
 {
-    packing::answers::pack_one_core(preferences::one_core::one_core(text, order))
+    packing::answers::pack(preferences::one_core::one_core(text, order))
 }
 
 // Which rules are broken in a station's log, and whether no state of it breaks a property.
 pub fn codremif_blame(text: &[u8], log: &[u8]) -> u64
     ensures { result ≡ packed (blame_parts (blame_answer text.now log.now)) }
 {
-    packing::answers::pack_blame(blaming::blame::blame(text, log))
+    packing::answers::pack(blaming::blame::blame(text, log))
 }
 
 // The place of the first state of the log that breaks a property, or the log's length.
 pub fn codremif_breach(text: &[u8], log: &[u8]) -> u64
-    ensures { result ≡ breach_number (blame_answer text.now log.now) }
+    ensures { result ≡ breach_number (length log.now) (blame_answer text.now log.now) }
 {
-    packing::answers::breach_of(blaming::blame::blame(text, log))
+    packing::answers::breach_of(blaming::blame::blame(text, log), log.len())
 }
 
 // Whether a set suffices, by a list of cores and a list of cuts.
 pub fn codremif_suffices(set: u32, cores: &[u8], cuts: &[u8]) -> u64
     ensures { result ≡ packed (suffices_parts (suffices_answer set cores.now cuts.now)) }
 {
-    packing::answers::pack_suffices(lookup::suffices::suffices(set, cores, cuts))
+    packing::answers::pack(lookup::suffices::suffices(set, cores, cuts))
 }
 
 pub fn codremif_witness(set: u32, cores: &[u8], cuts: &[u8]) -> u64

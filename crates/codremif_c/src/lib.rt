@@ -1,7 +1,7 @@
 // The exports for a C host, under the names of include/codremif.h: each is the call of crate `codremif` with this name, with its promises.
 #![tactic(auto)]
 
-ghost use Rattle.std.specs.Prelude.{◌≡◌};
+ghost use Rattle.std.specs.Prelude.{◌≡◌, length};
 ghost use Rattle.sorting.specs.declared.which.WhichList.TheVariants.{Cores, Cuts};
 ghost use Rattle.sorting.specs.declared.kinds.Kind.TheVariants.{Must, May, Irrelevant};
 ghost use Rattle.lookup.specs.Suffices.{suffices_answer};
@@ -83,7 +83,7 @@ pub extern "C" fn codremif_blame(text: &[u8], log: &[u8]) -> u64
 // The place of the first state of the log that breaks a property, or the log's length.
 #[unsafe(no_mangle)]
 pub extern "C" fn codremif_breach(text: &[u8], log: &[u8]) -> u64
-    ensures { result ≡ breach_number (blame_answer text.now log.now) }
+    ensures { result ≡ breach_number (length log.now) (blame_answer text.now log.now) }
 {
     codremif::host::codremif_breach(text, log)
 }

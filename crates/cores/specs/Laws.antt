@@ -1,2 +1,3 @@
 -- The laws of this crate's definitions.
 pub mod Seeds
+pub mod Judged

@@ -4,16 +4,8 @@
 use Rattle.std.specs.Prelude.{ℕ, ◌+◌, ◌-◌, ◌*◌, ◌/◌, ◌^◌, ◌≤◌, ◌<◌, ◌≡◌, Bool, true, false, List, length}
 use Rattle.sets.specs.Bit.{has, full}
 use Rattle.sets.specs.Sets.{◌⊑◌, with}
-use Rattle.sets.specs.Cores.{Core, Cut, Monotone, is_core, is_cut}
-use Rattle.systems.specs.declared.tables.Tables.{Tables}
-use Rattle.systems.specs.ByTables.{HasRoom, judge_by}
+use Rattle.sets.specs.Cores.{Core, Cut, is_core, is_cut}
 use Rattle.marks.specs.Marks.{marked, NonePast, Marks}
-
--- Masks and tables that judge the sets of at most 16 rules, so that a set holds if a part of it does.
-pub record Judges (masks : List ℕ) (t : Tables) : Type 0 where
-  pub room : HasRoom masks t
-  pub few : t.rules ≤ 16
-  pub more : Monotone t.rules (judge_by masks t)
 
 -- What is known of the sets of R rules that h judges. `unknown` tells of which sets nothing is known yet; `cores` and `cuts` tell what was found.
 pub record Known (R : ℕ) (h unknown cores cuts : ℕ → Bool) : Type 0 where
@@ -40,6 +32,7 @@ pub record Addable (unknown : List ℕ) (S i : ℕ) : Type 0 where
 
 -- A broken set of R rules, above which something is known only of sets that hold.
 pub record Growable (R : ℕ) (h : ℕ → Bool) (unknown : List ℕ) (S : ℕ) : Type 0 where
+  pub few : R ≤ 16
   pub room : 2 ^ R ≤ 64 * length unknown
   pub broken : h S ≡ false
   pub below : S < 2 ^ R
@@ -63,24 +56,17 @@ pub record Going (R : ℕ) (h : ℕ → Bool) (unknown cores cuts : List ℕ) : 
   pub past_cuts : NonePast R cuts
   pub known : Known R h (marked unknown) (marked cores) (marked cuts)
 
--- The seed S can be settled.
-pub record Settleable (masks : List ℕ) (t : Tables) (unknown cores cuts : List ℕ) (S : ℕ) : Type 0 where
-  pub judges : Judges masks t
-  pub going : Going t.rules (judge_by masks t) unknown cores cuts
-  pub seed : Seed t.rules (marked unknown) S
-
 -- Set S has been settled.
 pub record Settled (R : ℕ) (h : ℕ → Bool) (S : ℕ) (unknown unknown' cores' cuts' : List ℕ) : Type 0 where
   pub going : Going R h unknown' cores' cuts'
   pub itself : marked unknown' S ≡ false
   pub stays : (T : ℕ) → T < 2 ^ R → marked unknown T ≡ false → marked unknown' T ≡ false
 
--- Nothing is known of any set, and no core or cut is marked.
-pub record Fresh (masks : List ℕ) (t : Tables) (unknown cores cuts : List ℕ) : Type 0 where
-  pub judges : Judges masks t
-  pub all_unknown : Marks t.rules (λ S. true) unknown
-  pub no_cores : Marks t.rules (λ S. false) cores
-  pub no_cuts : Marks t.rules (λ S. false) cuts
+-- Nothing is known of any set of R rules, and no core or cut is marked.
+pub record Fresh (R : ℕ) (unknown cores cuts : List ℕ) : Type 0 where
+  pub all_unknown : Marks R (λ S. true) unknown
+  pub no_cores : Marks R (λ S. false) cores
+  pub no_cuts : Marks R (λ S. false) cuts
 
 -- Something is known of every set, and all cores and all cuts are marked.
 pub record AllFound (R : ℕ) (h : ℕ → Bool) (unknown cores cuts : List ℕ) : Type 0 where
@@ -88,15 +74,15 @@ pub record AllFound (R : ℕ) (h : ℕ → Bool) (unknown cores cuts : List ℕ)
   pub all_cores : Marks R (is_core h) cores
   pub all_cuts : Marks R (is_cut R h) cuts
 
--- Masks and tables that judge, and as many words for each table of sets as its marks take; the words may be any.
-pub record Findable (masks : List ℕ) (t : Tables) (unknown cores cuts : List ℕ) : Type 0 where
-  pub judges : Judges masks t
-  pub in_unknown : length unknown ≡ (2 ^ t.rules + 63) / 64
-  pub in_cores : length cores ≡ (2 ^ t.rules + 63) / 64
-  pub in_cuts : length cuts ≡ (2 ^ t.rules + 63) / 64
+-- At most 16 rules, and as many words for each table of sets as its marks take; the words may be any.
+pub record Findable (R : ℕ) (unknown cores cuts : List ℕ) : Type 0 where
+  pub few : R ≤ 16
+  pub in_unknown : length unknown ≡ (2 ^ R + 63) / 64
+  pub in_cores : length cores ≡ (2 ^ R + 63) / 64
+  pub in_cuts : length cuts ≡ (2 ^ R + 63) / 64
 
--- The set `all` is the full set, and it holds.
-pub record FullHolds (masks : List ℕ) (t : Tables) (all : ℕ) : Type 0 where
-  pub judges : Judges masks t
-  pub itself : all ≡ full t.rules
-  pub holds : judge_by masks t (full t.rules) ≡ true
+-- The set `all` is the full set of R rules, and it holds.
+pub record FullHolds (R : ℕ) (h : ℕ → Bool) (all : ℕ) : Type 0 where
+  pub few : R ≤ 16
+  pub itself : all ≡ full R
+  pub holds : h (full R) ≡ true

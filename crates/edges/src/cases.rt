@@ -1,151 +1,132 @@
 // What each call of a case is given and answers. Field 0 says which call it is, and field 1 is the case's name. Field 2 is a model text, field 3 how many
 // bytes are lent, at most eight, and field 4 a set; of a look-up field 2 is the core list and field 3 the cut list, of one core field 3 is the order, and of
 // blame the log.
-ghost use Rattle.std.specs.Prelude.{◌≤◌};
-
-use crate::{fields, shown};
+use crate::fields;
+use crate::shown::{self, Accepted, BlamedIn, Pairs, Sets, Show};
 use sorting::kinds::Kind;
 use sorting::which::WhichList;
+use std::alloc::Global;
 use std::io;
 use std::io::Write;
 
-// How many of the eight bytes are lent: eight where the field has more.
-fn room_in(s: &[u8]) -> usize
-    ensures { result ≤ 8 }
-{
-    let n = fields::number_in(s);
-    if n < 8 { n as usize } else { 8 }
-}
-
-// What a call that writes to lent bytes answers.
-fn answer(
-    out: &mut impl Write,
-    call: &[u8],
-    text: &[u8],
+// A case: the bytes of two fields, how many bytes are lent, and a set.
+#[derive(Clone, Copy)]
+struct Case<'a> {
+    first: &'a [u8],
+    second: &'a [u8],
+    room: usize,
     set: u32,
-    lent: &mut [u8],
-) -> io::Result<()> {
-    if slices::parts::same_bytes(call, b"judge") {
-        return shown::verdict(out, calls::judging::judge(text, set, lent));
-    }
-    if slices::parts::same_bytes(call, b"reached") {
-        return shown::pairs(out, calls::reaching::reach(text, set, lent));
-    }
-    if slices::parts::same_bytes(call, b"cores") {
-        return shown::count(out, calls::listing::list(text, WhichList::Cores, lent));
-    }
-    if slices::parts::same_bytes(call, b"cuts") {
-        return shown::count(out, calls::listing::list(text, WhichList::Cuts, lent));
-    }
-    out.write_all(b"no such call")
 }
 
-// The eight lent bytes held 201 to 208 before, so that a byte shown from another place is seen.
-fn lend(out: &mut impl Write, call: &[u8], text: &[u8], room: usize, set: u32) -> io::Result<()>
-    requires { room ≤ 8 }
+// Lends so many of eight bytes, eight where there are fewer, and shows the answer and the eight bytes after it. They held 201 to 208 before, so that a byte
+// shown from another place is seen.
+fn lend<A: Show, F: FnOnce(&mut [u8]) -> A>(
+    out: &mut impl Write,
+    room: usize,
+    call: F,
+) -> io::Result<()>
+    requires { F.IsAlwaysCallable call }
 {
     let mut lent = [201u8, 202, 203, 204, 205, 206, 207, 208];
-    answer(out, call, text, set, &mut lent[..room])?;
-    shown::lent_bytes(out, lent)
+    let end = room.min(8);
+    call(&mut lent[..end]).show(out)?;
+    shown::bytes(out, " lent", &lent)
 }
 
-fn kinds(out: &mut impl Write, text: &[u8]) -> io::Result<()> {
-    shown::set(out, b"must=", calls::kinds::give(text, Kind::Must))?;
-    shown::set(out, b" may=", calls::kinds::give(text, Kind::May))?;
-    shown::set(out, b" irr=", calls::kinds::give(text, Kind::Irrelevant))
-}
+impl Case<'_> {
+    fn judge(self, out: &mut impl Write) -> io::Result<()> {
+        lend(out, self.room, |lent| {
+            calls::judging::judge(self.first, self.set, lent)
+        })
+    }
 
-// What every call answers for a text, and for one of its sets.
-fn every_call(out: &mut impl Write, text: &[u8], set: u32) -> io::Result<()> {
-    lend(out, b"judge", text, 8, set)?;
-    out.write_all(b"\nits reached states: ")?;
-    lend(out, b"reached", text, 8, set)?;
-    out.write_all(b"\nits cores: ")?;
-    lend(out, b"cores", text, 8, set)?;
-    out.write_all(b"\nits cuts: ")?;
-    lend(out, b"cuts", text, 8, set)?;
-    out.write_all(b"\nits rules: ")?;
-    kinds(out, text)
-}
+    fn reach(self, out: &mut impl Write) -> io::Result<()> {
+        lend(out, self.room, |lent| {
+            calls::reaching::reach(self.first, self.set, lent).map(Pairs)
+        })
+    }
 
-// The two lists have one lifetime, since the witness is a part of either.
-fn look_up<'a>(out: &mut impl Write, cores: &'a [u8], cuts: &'a [u8], set: u32) -> io::Result<()> {
-    shown::said(out, lookup::suffices::suffices(set, cores, cuts))?;
-    let part = lookup::suffices::witness(set, cores, cuts);
-    if part.len() == 0 {
-        out.write_all(b", no witness")
-    } else {
-        shown::bytes(out, b", witness", part)
+    fn list(self, out: &mut impl Write, which: WhichList) -> io::Result<()> {
+        lend(out, self.room, |lent| {
+            calls::listing::list(self.first, which, lent).map(Sets)
+        })
     }
-}
 
-// The calls that are given the bytes of two fields: a text and an order or a log, or two lists.
-fn ask_two(
-    out: &mut impl Write,
-    call: &[u8],
-    first: &[u8],
-    line: &[u8],
-    set: u32,
-) -> io::Result<()> {
-    let mut second = [0u8; 2048];
-    let n = fields::bytes_in(fields::field(line, 3), &mut second);
-    if slices::parts::same_bytes(call, b"one core") {
-        return shown::one_core(out, preferences::one_core::one_core(first, &second[..n]));
+    fn kinds(self, out: &mut impl Write) -> io::Result<()> {
+        shown::rules(out, "must=", calls::kinds::give(self.first, Kind::Must))?;
+        shown::rules(out, " may=", calls::kinds::give(self.first, Kind::May))?;
+        shown::rules(
+            out,
+            " irr=",
+            calls::kinds::give(self.first, Kind::Irrelevant),
+        )
     }
-    if slices::parts::same_bytes(call, b"blame") {
-        return shown::blamed(out, blaming::blame::blame(first, &second[..n]));
-    }
-    look_up(out, first, &second[..n], set)
-}
 
-// Whether the bytes of two fields are given.
-fn is_given_two(call: &[u8]) -> bool {
-    slices::parts::same_bytes(call, b"look up")
-        | slices::parts::same_bytes(call, b"one core")
-        | slices::parts::same_bytes(call, b"blame")
-}
+    // What every call answers for a text, and for one of its sets.
+    fn every_call(self, out: &mut impl Write) -> io::Result<()> {
+        let all = Case { room: 8, ..self };
+        all.judge(out)?;
+        out.write_all(b"\nits reached states: ")?;
+        all.reach(out)?;
+        out.write_all(b"\nits cores: ")?;
+        all.list(out, WhichList::Cores)?;
+        out.write_all(b"\nits cuts: ")?;
+        all.list(out, WhichList::Cuts)?;
+        out.write_all(b"\nits rules: ")?;
+        all.kinds(out)
+    }
 
-// The calls that are given a text.
-fn ask(out: &mut impl Write, call: &[u8], text: &[u8], room: usize, set: u32) -> io::Result<()>
-    requires { room ≤ 8 }
-{
-    if slices::parts::same_bytes(call, b"kinds") {
-        return kinds(out, text);
+    fn look_up(self, out: &mut impl Write) -> io::Result<()> {
+        lookup::suffices::suffices(self.set, self.first, self.second).show(out)?;
+        let witness = lookup::suffices::witness(self.set, self.first, self.second);
+        if witness.is_empty() {
+            out.write_all(b", no witness")
+        } else {
+            shown::bytes(out, ", witness", witness)
+        }
     }
-    if slices::parts::same_bytes(call, b"every call") {
-        return every_call(out, text, set);
-    }
-    if slices::parts::same_bytes(call, b"read") {
-        let reading = models::model::read_model(text);
-        let outcome = reading.outcome;
-        return shown::outcome(out, outcome);
-    }
-    lend(out, call, text, room, set)
-}
 
-// The call of a line, where the bytes of field 2 are told already.
-fn run_call(out: &mut impl Write, line: &[u8], first: &[u8]) -> io::Result<()> {
-    let call = fields::field(line, 0);
-    let room = room_in(fields::field(line, 3));
-    let set = fields::number_in(fields::field(line, 4));
-    if slices::parts::same_bytes(call, b"look up in one list") {
-        return look_up(out, first, first, set);
+    fn ask(self, out: &mut impl Write, call: &str) -> io::Result<()> {
+        match call {
+            "read" => models::model::read_model(self.first)
+                .map(|_| Accepted)
+                .show(out),
+            "judge" => self.judge(out),
+            "reached" => self.reach(out),
+            "cores" => self.list(out, WhichList::Cores),
+            "cuts" => self.list(out, WhichList::Cuts),
+            "kinds" => self.kinds(out),
+            "every call" => self.every_call(out),
+            "look up" => self.look_up(out),
+            "look up in one list" => Case {
+                second: self.first,
+                ..self
+            }
+            .look_up(out),
+            "one core" => preferences::one_core::one_core(self.first, self.second).show(out),
+            "blame" => blaming::blame::blame(self.first, self.second)
+                .map(|blamed| BlamedIn(blamed, self.second.len()))
+                .show(out),
+            _ => out.write_all(b"no such call"),
+        }
     }
-    if is_given_two(call) {
-        return ask_two(out, call, first, line, set);
-    }
-    ask(out, call, first, room, set)
 }
 
 // The case's name, and what the call answers.
-pub(crate) fn run_line(out: &mut impl Write, line: &[u8]) -> io::Result<()> {
-    if slices::parts::byte_at(line, 0) == b'#' {
-        return Ok(());
-    }
-    let mut first = [0u8; 2048];
-    let n = fields::bytes_in(fields::field(line, 2), &mut first);
-    out.write_all(fields::field(line, 1))?;
-    out.write_all(b": ")?;
-    run_call(out, line, &first[..n])?;
+pub(crate) fn run_line(alloc: Global, out: &mut impl Write, line: &str) -> io::Result<()> {
+    let mut fields = line.split(';');
+    let call = fields.next().unwrap_or("");
+    let name = fields.next().unwrap_or("");
+    let first = fields::bytes(alloc, fields.next().unwrap_or(""))?;
+    let third = fields.next().unwrap_or("");
+    let second = fields::bytes(alloc, third)?;
+    let case = Case {
+        first: &first,
+        second: &second,
+        room: fields::number(third) as usize,
+        set: fields::number(fields.next().unwrap_or("")),
+    };
+    write!(out, "{name}: ")?;
+    case.ask(out, call)?;
     out.write_all(b"\n")
 }

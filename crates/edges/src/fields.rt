@@ -1,114 +1,45 @@
-// The fields of a case: the bytes between the semicolons of a line. A field is a name, a number in base ten, or bytes: `\n`, `\r` and `\x` with two
-// digits of base 16 (small letters) stand for one byte each, so that every byte can be written.
-ghost use Rattle.std.specs.Prelude.{◌≤◌, ◌<◌};
-ghost use Rattle.io.specs.Counts.{IsPrefixLen};
+// What a field of a case tells: a number in base ten, or bytes: `\n`, `\r` and `\x` with two digits of base 16 (small letters) stand for one byte each,
+// so that every byte can be written.
+ghost use Rattle.std.specs.Prelude.{◌<◌, length, IfSome};
 
-// One for a semicolon, and otherwise none.
-fn semicolons(b: u8) -> usize
-    ensures { result ≤ 1 }
-{
-    if b == b';' { 1 } else { 0 }
-}
+use std::alloc::{AllocError, Global};
 
-// Where field k of a line begins, where the first is field 0: behind k semicolons, or at the line's end where it has fewer.
-fn field_start(line: &[u8], k: usize) -> usize {
-    let mut i = 0;
-    let mut passed = 0;
-    while i < line.len() {
-        if passed == k {
-            return i;
-        }
-        passed = passed + semicolons(line[i]);
-        i += 1;
-    }
-    i
-}
-
-// How many bytes a field has that begins here.
-fn field_length(s: &[u8]) -> usize {
-    let mut i = 0;
-    while i < s.len() {
-        if s[i] == b';' {
-            return i;
-        }
-        i += 1;
-    }
-    i
-}
-
-// Field k of a line; it has no byte where the line has fewer fields.
-pub(crate) fn field(line: &[u8], k: usize) -> &[u8] {
-    let left = slices::parts::rest(line, field_start(line, k));
-    slices::parts::front(left, field_length(left))
-}
-
-// The number in a field, of which the last 32 bits count.
-pub(crate) fn number_in(s: &[u8]) -> u32 {
-    let mut number = 0u64;
-    let mut i = 0;
-    while i < s.len() {
-        number = (number * 10 + (s[i] % 16) as u64) % 4294967296;
-        i += 1;
-    }
-    number as u32
+// The number in a field; a field that is none counts as 0.
+pub(crate) fn number(field: &str) -> u32 {
+    field.parse().unwrap_or(0)
 }
 
 // The value of a digit of base 16.
-fn digit_of(b: u8) -> u8
+fn digit(b: u8) -> u8
     ensures { result < 16 }
 {
-    if b'a' <= b {
-        (b - b'a' + 10) % 16
-    } else {
-        b % 16
+    match b {
+        b'0'..=b'9' => b - b'0',
+        b'a'..=b'f' => b - b'a' + 10,
+        _ => 0,
     }
 }
 
-// The byte that s begins with, written as itself or behind a backslash.
-fn first_byte(s: &[u8]) -> u8 {
-    let b = slices::parts::byte_at(s, 0);
-    if b != b'\\' {
-        return b;
-    }
-    match slices::parts::byte_at(s, 1) {
-        b'n' => 10,
-        b'r' => 13,
-        _ => {
-            let high = digit_of(slices::parts::byte_at(s, 2));
-            let low = digit_of(slices::parts::byte_at(s, 3));
-            high * 16 + low
-        }
-    }
-}
-
-// How many bytes it is written with.
-fn first_length(s: &[u8]) -> usize
-    ensures lower_bound { 1 ≤ result }
-    ensures upper_bound { result ≤ 4 }
+// The byte that a field begins with, written as itself or behind a backslash, and what of the field follows.
+fn first_byte(field: &[u8]) -> Option<(u8, &[u8])>
+    ensures { IfSome result (λ r. length r.1.now < length field.now) }
 {
-    if slices::parts::byte_at(s, 0) != b'\\' {
-        1
-    } else if slices::parts::byte_at(s, 1) != b'x' {
-        2
-    } else {
-        4
+    match field {
+        [] => None,
+        [b'\\', b'n', rest @ ..] => Some((b'\n', rest)),
+        [b'\\', b'r', rest @ ..] => Some((b'\r', rest)),
+        [b'\\', b'x', high, low, rest @ ..] => Some((digit(*high) * 16 + digit(*low), rest)),
+        [b, rest @ ..] => Some((*b, rest)),
     }
 }
 
-// The bytes that a field tells, at the start of what is lent for them, and how many they are; where less is lent, the first of them.
-pub(crate) fn bytes_in(s: &[u8], told: &mut [u8]) -> usize
-    ensures { IsPrefixLen result told.new }
-{
-    let mut at = 0;
-    let mut n = 0;
-    while n < told.len() {
-        let left = slices::parts::rest(s, at);
-        if left.len() == 0 {
-            return n;
-        }
-        told[n] = first_byte(left);
-        at = at + first_length(left);
-        n += 1;
+// The bytes that a field tells.
+pub(crate) fn bytes(alloc: Global, field: &str) -> Result<Vec<u8>, AllocError> {
+    let mut told = Vec::new(alloc);
+    let mut left = field.as_bytes();
+    while let Some((b, rest)) = first_byte(left) {
+        told.push(b)?;
+        left = rest;
     }
-    n
+    Ok(told)
 }

@@ -1,111 +1,127 @@
-// How an answer is written, and the lent bytes after a call.
-use blaming::answer::BlameAnswer;
-use calls::answers::{JudgeAnswer, ListAnswer, ReachedAnswer, SetAnswer};
-use lookup::answer::SufficesAnswer;
-use models::model::Outcome;
-use preferences::answer::OneCoreAnswer;
+// How an answer is written, and bytes that it tells.
+use calls::verdict::Verdict;
+use logs::blame::Blamed;
+use lookup::answer::Suffices;
+use refusals::refusal::Refusal;
+use sets::one_core::OneCore;
 use std::io;
 use std::io::Write;
 
-fn put_number(out: &mut impl Write, key: &[u8], number: u64) -> io::Result<()> {
-    out.write_all(key)?;
-    write!(out, "{number}")
+// What an accepted call answers, or whether it was accepted.
+pub(crate) trait Show {
+    fn show<W: Write>(self, out: &mut W) -> io::Result<()>;
 }
 
-fn put_refusal(out: &mut impl Write, number: u8, line: usize) -> io::Result<()> {
-    put_number(out, b"refused=", number as u64)?;
-    put_number(out, b" line=", line as u64)
-}
+// A text that was read, where nothing else is asked of it.
+#[derive(Clone, Copy)]
+pub(crate) struct Accepted;
 
-pub(crate) fn outcome(out: &mut impl Write, o: Outcome) -> io::Result<()> {
-    match o {
-        Outcome::Accepted => out.write_all(b"accepted"),
-        Outcome::Refused(number, line) => put_refusal(out, number, line),
-    }
-}
+// So many pairs of states that were tried.
+#[derive(Clone, Copy)]
+pub(crate) struct Pairs(pub usize);
 
-pub(crate) fn verdict(out: &mut impl Write, answer: JudgeAnswer) -> io::Result<()> {
-    match answer {
-        JudgeAnswer::Refused(number, line) => put_refusal(out, number, line),
-        JudgeAnswer::Holds => out.write_all(b"holds"),
-        JudgeAnswer::Broken(states) => put_number(out, b"broken states=", states as u64),
-    }
-}
+// So many sets of a list.
+#[derive(Clone, Copy)]
+pub(crate) struct Sets(pub usize);
 
-pub(crate) fn pairs(out: &mut impl Write, answer: ReachedAnswer) -> io::Result<()> {
-    match answer {
-        ReachedAnswer::Refused(number, line) => put_refusal(out, number, line),
-        ReachedAnswer::Pairs(pairs) => put_number(out, b"pairs=", pairs as u64),
-    }
-}
+// What was blamed from a log of so many states.
+#[derive(Clone, Copy)]
+pub(crate) struct BlamedIn(pub Blamed, pub usize);
 
-pub(crate) fn count(out: &mut impl Write, answer: ListAnswer) -> io::Result<()> {
-    match answer {
-        ListAnswer::Refused(number, line) => put_refusal(out, number, line),
-        ListAnswer::Count(sets) => put_number(out, b"sets=", sets as u64),
-    }
-}
-
-pub(crate) fn set(out: &mut impl Write, key: &[u8], answer: SetAnswer) -> io::Result<()> {
-    out.write_all(key)?;
-    match answer {
-        SetAnswer::Refused(number, line) => {
-            put_number(out, b"refused ", number as u64)?;
-            put_number(out, b" line ", line as u64)
-        }
-        SetAnswer::Set(set) => put_number(out, b"", set as u64),
-    }
-}
-
-pub(crate) fn one_core(out: &mut impl Write, answer: OneCoreAnswer) -> io::Result<()> {
-    match answer {
-        OneCoreAnswer::Refused(number, line) => put_refusal(out, number, line),
-        OneCoreAnswer::CoreFound(set, judgements) => {
-            put_number(out, b"core=", set as u64)?;
-            put_number(out, b" judgements=", judgements as u64)
-        }
-        OneCoreAnswer::NoCore(judgements) => {
-            put_number(out, b"no core judgements=", judgements as u64)
+impl<A: Show + Drop> Show for Result<A, Refusal> {
+    fn show<W: Write>(self, out: &mut W) -> io::Result<()> {
+        match self {
+            Ok(answer) => answer.show(out),
+            Err(refusal) => {
+                let number = refusal.reason.number();
+                let line = refusal.line;
+                write!(out, "refused={number} line={line}")
+            }
         }
     }
 }
 
-pub(crate) fn blamed(out: &mut impl Write, answer: BlameAnswer) -> io::Result<()> {
-    match answer {
-        BlameAnswer::Refused(number, line) => put_refusal(out, number, line),
-        BlameAnswer::BreachAt(set, place) => {
-            put_number(out, b"blamed=", set as u64)?;
-            put_number(out, b" breach at ", place as u64)
-        }
-        BlameAnswer::NoBreach(set, states) => {
-            put_number(out, b"blamed=", set as u64)?;
-            put_number(out, b" no breach in ", states as u64)
+impl Show for Accepted {
+    fn show<W: Write>(self, out: &mut W) -> io::Result<()> {
+        out.write_all(b"accepted")
+    }
+}
+
+impl Show for Verdict {
+    fn show<W: Write>(self, out: &mut W) -> io::Result<()> {
+        match self {
+            Verdict::Holds => out.write_all(b"holds"),
+            Verdict::Broken(states) => write!(out, "broken states={states}"),
         }
     }
 }
 
-pub(crate) fn said(out: &mut impl Write, answer: SufficesAnswer) -> io::Result<()> {
-    match answer {
-        SufficesAnswer::Refused(number, line) => put_refusal(out, number, line),
-        SufficesAnswer::CoreInside(place) => put_number(out, b"core inside at ", place as u64),
-        SufficesAnswer::CutApart(place) => put_number(out, b"cut apart at ", place as u64),
-        SufficesAnswer::Unlisted => out.write_all(b"unlisted"),
+impl Show for Pairs {
+    fn show<W: Write>(self, out: &mut W) -> io::Result<()> {
+        let Pairs(pairs) = self;
+        write!(out, "pairs={pairs}")
     }
 }
 
-fn put_byte(out: &mut impl Write, b: u8) -> io::Result<()> {
-    put_number(out, b" ", b as u64)
+impl Show for Sets {
+    fn show<W: Write>(self, out: &mut W) -> io::Result<()> {
+        let Sets(sets) = self;
+        write!(out, "sets={sets}")
+    }
+}
+
+impl Show for OneCore {
+    fn show<W: Write>(self, out: &mut W) -> io::Result<()> {
+        let judgements = self.judgements;
+        match self.core {
+            Some(set) => write!(out, "core={set} judgements={judgements}"),
+            None => write!(out, "no core judgements={judgements}"),
+        }
+    }
+}
+
+impl Show for BlamedIn {
+    fn show<W: Write>(self, out: &mut W) -> io::Result<()> {
+        let BlamedIn(Blamed { set, breach }, states) = self;
+        match breach {
+            Some(place) => write!(out, "blamed={set} breach at {place}"),
+            None => write!(out, "blamed={set} no breach in {states}"),
+        }
+    }
+}
+
+impl Show for Suffices {
+    fn show<W: Write>(self, out: &mut W) -> io::Result<()> {
+        match self {
+            Suffices::CoreInside(place) => write!(out, "core inside at {place}"),
+            Suffices::CutApart(place) => write!(out, "cut apart at {place}"),
+            Suffices::Unlisted => out.write_all(b"unlisted"),
+        }
+    }
+}
+
+// The rules of a kind behind its key; there a refusal is written without `=`.
+pub(crate) fn rules(
+    out: &mut impl Write,
+    key: &str,
+    answer: Result<u16, Refusal>,
+) -> io::Result<()> {
+    write!(out, "{key}")?;
+    match answer {
+        Ok(set) => write!(out, "{set}"),
+        Err(refusal) => {
+            let number = refusal.reason.number();
+            let line = refusal.line;
+            write!(out, "refused {number} line {line}")
+        }
+    }
 }
 
 // The bytes of a slice, each behind a space.
-pub(crate) fn bytes(out: &mut impl Write, key: &[u8], s: &[u8]) -> io::Result<()> {
-    out.write_all(key)?;
+pub(crate) fn bytes(out: &mut impl Write, key: &str, s: &[u8]) -> io::Result<()> {
+    write!(out, "{key}")?;
     for b in s {
-        put_byte(out, *b)?;
+        write!(out, " {b}")?;
     }
     Ok(())
-}
-
-pub(crate) fn lent_bytes(out: &mut impl Write, lent: [u8; 8]) -> io::Result<()> {
-    bytes(out, b" lent", &lent)
 }

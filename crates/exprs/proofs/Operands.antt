@@ -1,223 +1,185 @@
--- What stands at the start of a text by how many operands its first byte takes, for `read` and `words` alike.
--- From the definitions of `Reading` and the law that what is read is written.
-use Prim.Native.Nat.{ℕ, ◌+◌, ◌≤◌}
-use mathlib.Core.Path.{◌≡◌, refl, sym, ap, ◌∙◌}
+-- What stands at the start of a text, and what it is worth, by how many operands its first byte takes.
+-- From the definitions of `Reading` and `Folded` and the law that what is read is written.
+use Prim.Native.Nat.{ℕ, ◌+◌, ◌-◌, ◌≤◌}
+use mathlib.Core.Path.{◌≡◌, refl, sym, ap, ap₂, ◌∙◌, subst}
 use mathlib.Core.Logic.{◌≢◌}
-use mathlib.Core.Bool.{Bool}
 use mathlib.Core.List.{List, [], ◌∷◌}
-use mathlib.Core.Option.{Option, none, some, none-ne-some, some-ne-none, some-injective}
 use native.Mathlib.Omega.{arith}
-use lib.ListN.{length, get_or, drop, length-append, length-drop}
+use borrow.Author.Rules.{part_to_end}
+use lib.ListN.{length, take, drop, length-append, length-drop}
 use lib.Seq.{drop-drop}
+use Rattle.std.specs.Prelude.{Option, Some, None, slice_get}
+use Rattle.std.proofs.lemmas.Option.{some_pair_parts}
 use Rattle.exprs.specs.declared.token.Token.{Token}
 use Rattle.exprs.specs.declared.token.Token.TheVariants.{Constant, Now, Next, Not, And, Or, Implies, Alike, Other}
 use Rattle.exprs.specs.Token.{token_of, operand_count}
-use Rattle.exprs.specs.Expr.{Expr, negation, conjunction, disjunction, implication, equivalence, written, size, value}
-use Rattle.exprs.specs.Reading.{before, operands, first, read_expr}
+use Rattle.exprs.specs.Expr.{Expr, negation, conjunction, disjunction, implication, equivalence, written, size}
+use Rattle.exprs.specs.Reading.{with_one, with_two, before, operands, first, read_expr}
+use Rattle.exprs.specs.Folded.{folded, worth_of}
 use Rattle.exprs.specs.Laws.Reading.{read_written}
-use Rattle.exprs.specs.Answers.{combined}
-
--- the expression of an operator and its operands; `!` looks at the first only
-pub node : Token → Expr → Expr → Expr
-node (Constant v) d e = d
-node (Now i) d e = d
-node (Next i) d e = d
-node Not d e = negation d
-node And d e = conjunction d e
-node Or d e = disjunction d e
-node Implies d e = implication d e
-node Alike d e = equivalence d e
-node Other d e = d
-
--- ---- by the number of operands
-
-none_follows : (t : Token) (es : List Expr) → operand_count t ≡ 0 → first (before t es) ≡ first (before t [])
-unfolding first before
-none_follows (Constant v) es h = refl
-none_follows (Now i) es h = refl
-none_follows (Next i) es h = refl
-none_follows Not es h = absurd (omega arith)
-none_follows And es h = absurd (omega arith)
-none_follows Or es h = absurd (omega arith)
-none_follows Implies es h = absurd (omega arith)
-none_follows Alike es h = absurd (omega arith)
-none_follows Other es h = refl
-
--- an operator with no expression behind it
-lacks_one : (t : Token) → operand_count t ≢ 0 → first (before t []) ≡ none
-unfolding first before
-lacks_one (Constant v) h = absurd (h refl)
-lacks_one (Now i) h = absurd (h refl)
-lacks_one (Next i) h = absurd (h refl)
-lacks_one Not h = refl
-lacks_one And h = refl
-lacks_one Or h = refl
-lacks_one Implies h = refl
-lacks_one Alike h = refl
-lacks_one Other h = refl
-
--- an operator of one operand
-has_one : (t : Token) (d : Expr) (es : List Expr) → operand_count t ≡ 1 → first (before t (d ∷ es)) ≡ some (node t d d)
-unfolding first before node
-has_one (Constant v) d es h = absurd (omega arith)
-has_one (Now i) d es h = absurd (omega arith)
-has_one (Next i) d es h = absurd (omega arith)
-has_one Not d es h = refl
-has_one And d es h = absurd (omega arith)
-has_one Or d es h = absurd (omega arith)
-has_one Implies d es h = absurd (omega arith)
-has_one Alike d es h = absurd (omega arith)
-has_one Other d es h = absurd (omega arith)
-
--- an operator of two operands, by what stands behind the first
-second : Token → Expr → Option Expr → Option Expr
-second t d none = none
-second t d (some e) = some (node t d e)
-
-has_two : (t : Token) (d : Expr) (es : List Expr) → operand_count t ≢ 0 → operand_count t ≢ 1 → first (before t (d ∷ es)) ≡ second t d (first es)
-unfolding first before second node
-has_two (Constant v) d es h k = absurd (h refl)
-has_two (Now i) d es h k = absurd (h refl)
-has_two (Next i) d es h k = absurd (h refl)
-has_two Not d es h k = absurd (k refl)
-has_two And d [] h k = refl
-has_two And d (e ∷ es) h k = refl
-has_two Or d [] h k = refl
-has_two Or d (e ∷ es) h k = refl
-has_two Implies d [] h k = refl
-has_two Implies d (e ∷ es) h k = refl
-has_two Alike d [] h k = refl
-has_two Alike d (e ∷ es) h k = refl
-has_two Other d es h k = absurd (h refl)
-
--- ---- of a text
-
--- what the list begins with, as the text shows it
-begins : (l : List ℕ) (d : Expr) → read_expr l ≡ some d → (es : List Expr) × (operands l ≡ d ∷ es) × (read_expr (drop (size d) l) ≡ first es)
-unfolding read_expr first
-begins l d q = go (operands l) refl q
-  where
-    go : (os : List Expr) → operands l ≡ os → first os ≡ some d → (es : List Expr) × (operands l ≡ d ∷ es) × (read_expr (drop (size d) l) ≡ first es)
-    go [] p h = absurd (none-ne-some d h)
-    go (e ∷ es) p h =
-        let m : operands l ≡ d ∷ es = p ∙ ap (λ x. x ∷ es) (some-injective e d h) in
-        (es, m, ap first (read_written l d es m).others)
-
-begins_not : (l : List ℕ) → read_expr l ≡ none → operands l ≡ []
-unfolding read_expr first
-begins_not l q = go (operands l) q
-  where
-    go : (os : List Expr) → first os ≡ none → os ≡ []
-    go [] h = refl
-    go (e ∷ es) h = absurd (some-ne-none e h)
-
-pub empty : (s : List ℕ) → length s ≡ 0 → read_expr s ≡ none
-unfolding read_expr operands first
-empty [] h = refl
-empty (b ∷ s) h = absurd (omega arith)
-
-not_empty : (s : List ℕ) → length s ≢ 0 → read_expr s ≡ first (before (token_of (get_or s 0 0)) (operands (drop 1 s)))
-unfolding read_expr operands
-not_empty [] h = absurd (h refl)
-not_empty (b ∷ s) h = refl
-
-fits_in : (l : List ℕ) (d : Expr) → read_expr l ≡ some d → size d ≤ length l
-unfolding size
-fits_in l d q =
-    let f = read_written l d (begins l d q).0 (begins l d q).1 in
-    omega (arith, ap length f.text ∙ length-append (written d) (drop (size d) l))
 
 -- A text s that is not empty, the token t of its first byte and the number n of operands that t takes.
 pub record Opens (s : List ℕ) (t : Token) (n : ℕ) : Type 0 where
-  pub filled : length s ≢ 0
-  pub token : t ≡ token_of (get_or s 0 0)
-  pub count : n ≡ operand_count t
+  filled : 1 ≤ length s
+  opened : operands s ≡ before t (operands (drop 1 s))
+  count : operand_count t ≡ n
 
--- What stands at the start of such a text.
-module _ {s : List ℕ} {t : Token} {n : ℕ} (o : Opens s t n) where
-  opened : read_expr s ≡ first (before t (operands (drop 1 s)))
-  opened = not_empty s o.filled ∙ ap (λ x. first (before x (operands (drop 1 s)))) (sym o.token)
+pub opens : (s : List ℕ) {b n : ℕ} {t : Token} → Some b ≡ slice_get s 0 → t ≡ token_of b → n ≡ operand_count t → Opens s t n
+unfolding operands
+opens [] q e k = cc
+opens (x ∷ s) {b} q e k =
+    let same : b ≡ x = cc in
+    record { filled = omega arith; opened = ap (λ y. before y (operands s)) (ap token_of (sym same) ∙ sym e); count = sym k }
 
-  pub takes_none : n ≡ 0 → read_expr s ≡ first (before t [])
-  takes_none h = opened ∙ none_follows t (operands (drop 1 s)) (sym o.count ∙ h)
+module _ {A : Type 0} (leaf : Token → A) (operator : Token → A → A → A) where
+  worth : Expr → A
+  worth e = folded leaf operator e
 
-  pub lacks_first : n ≢ 0 → read_expr (drop 1 s) ≡ none → read_expr s ≡ none
-  lacks_first h q = opened ∙ ap (λ os. first (before t os)) (begins_not (drop 1 s) q) ∙ lacks_one t (λ k. h (o.count ∙ k))
+  -- ---- what a byte makes of the expressions behind it, by how many of them it takes
 
-  module _ (d : Expr) (q : read_expr (drop 1 s) ≡ some d) where
-    behind : (es : List Expr) × (operands (drop 1 s) ≡ d ∷ es) × (read_expr (drop (size d) (drop 1 s)) ≡ first es)
-    behind = begins (drop 1 s) d q
+  data Takes (t : Token) : ℕ → Type 0 where
+    takes_none : ((es : List Expr) → first (before t es) ≡ first (before t [])) → Takes t 0
+    takes_one : (f : Expr → Expr) → ((es : List Expr) → before t es ≡ with_one f es) → ((e : Expr) → size (f e) ≡ 1 + size e) → ((e : Expr) → worth (f e) ≡ operator t (worth e) (worth e)) → Takes t 1
+    takes_two : (f : Expr → Expr → Expr) → ((es : List Expr) → before t es ≡ with_two f es) → ((d e : Expr) → size (f d e) ≡ 1 + size d + size e) → ((d e : Expr) → worth (f d e) ≡ operator t (worth d) (worth e)) → Takes t 2
 
-    -- the first operand ends within the text
-    pub within : 1 + size d ≤ length s
-    within = omega (arith, fits_in (drop 1 s) d q, length-drop 1 s)
+  takes : (t : Token) → Takes t (operand_count t)
+  unfolding before first size worth folded
+  takes (Constant v) = takes_none (λ es. refl)
+  takes (Now i) = takes_none (λ es. refl)
+  takes (Next i) = takes_none (λ es. refl)
+  takes Not = takes_one negation (λ es. refl) (λ e. omega arith) (λ e. refl)
+  takes And = takes_two conjunction (λ es. refl) (λ d e. omega (arith, length-append (written d) (written e))) (λ d e. refl)
+  takes Or = takes_two disjunction (λ es. refl) (λ d e. omega (arith, length-append (written d) (written e))) (λ d e. refl)
+  takes Implies = takes_two implication (λ es. refl) (λ d e. omega (arith, length-append (written d) (written e))) (λ d e. refl)
+  takes Alike = takes_two equivalence (λ es. refl) (λ d e. omega (arith, length-append (written d) (written e))) (λ d e. refl)
+  takes Other = takes_none (λ es. refl)
 
-    pub takes_one : n ≡ 1 → read_expr s ≡ some (node t d d)
-    takes_one h = opened ∙ ap (λ os. first (before t os)) behind.1 ∙ has_one t d behind.0 (sym o.count ∙ h)
+  -- ---- what a text answers
 
-    takes_two : (e : Option Expr) → n ≢ 0 → n ≢ 1 → read_expr (drop (1 + size d) s) ≡ e → read_expr s ≡ second t d e
-    takes_two e h k p =
-        opened ∙ ap (λ os. first (before t os)) behind.1 ∙ has_two t d behind.0 (λ z. h (o.count ∙ z)) (λ z. k (o.count ∙ z))
-        ∙ ap (second t d) (sym behind.2 ∙ ap read_expr (drop-drop (size d) 1 s) ∙ p)
+  abbrev pub answer : List ℕ → Option (A × ℕ)
+  answer l = worth_of leaf operator (read_expr l)
 
-    pub lacks_second : n ≢ 0 → n ≢ 1 → read_expr (drop (1 + size d) s) ≡ none → read_expr s ≡ none
-    unfolding second
-    lacks_second = takes_two none
+  answer_none : (l : List ℕ) → operands l ≡ [] → None ≡ answer l
+  unfolding worth_of read_expr first
+  answer_none l q = sym (ap (λ es. worth_of leaf operator (first es)) q)
 
-    pub takes_both : (e : Expr) → n ≢ 0 → n ≢ 1 → read_expr (drop (1 + size d) s) ≡ some e → read_expr s ≡ some (node t d e)
-    unfolding second
-    takes_both e = takes_two (some e)
+  answer_some : (l : List ℕ) (e : Expr) (es : List Expr) {x : A} {a : ℕ} → operands l ≡ e ∷ es → x ≡ worth e → a ≡ size e → Some (x, a) ≡ answer l
+  unfolding worth worth_of read_expr first
+  answer_some l e es q v z = ap₂ (λ x a. Some (x, a)) v z ∙ sym (ap (λ es. worth_of leaf operator (first es)) q)
 
-    -- the second operand ends within the text too
-    pub both_within : (e : Expr) → read_expr (drop (1 + size d) s) ≡ some e → 1 + size d + size e ≤ length s
-    both_within e p = omega (arith, fits_in (drop (1 + size d) s) e p, length-drop (1 + size d) s, within)
+  -- the expression that l begins with, where it is worth x and has so many bytes
+  record Begins (l : List ℕ) (x : A) (a : ℕ) : Type 0 where
+    tree : Expr
+    stands : operands l ≡ tree ∷ operands (drop a l)
+    is_worth : x ≡ worth tree
+    bytes : a ≡ size tree
+    fits : a ≤ length l
 
--- ---- the bytes and the value of an operator and its operands
+  begins : (l : List ℕ) {x : A} {a : ℕ} → Some (x, a) ≡ answer l → Begins l x a
+  unfolding worth worth_of read_expr first size
+  begins l {x} {a} q = go (operands l) refl q
+    where
+      go : (es : List Expr) → operands l ≡ es → Some (x, a) ≡ worth_of leaf operator (first es) → Begins l x a
+      go [] p h = cc
+      go (e ∷ es) p h =
+          let parts : (x ≡ worth e) × (a ≡ size e) = some_pair_parts x (worth e) a (size e) h in
+          let r = read_written l e es p in
+          record {
+            tree = e;
+            stands = p ∙ ap (λ x. e ∷ x) (sym r.others ∙ ap (λ k. operands (drop k l)) (sym parts.1));
+            is_worth = parts.0;
+            bytes = parts.1;
+            fits = omega (arith, parts.1, ap length r.text ∙ length-append (written e) (drop (size e) l));
+          }
 
-pub size_one : (t : Token) (d e : Expr) → operand_count t ≡ 1 → size (node t d e) ≡ 1 + size d
-unfolding size node
-size_one (Constant v) d e h = absurd (omega arith)
-size_one (Now i) d e h = absurd (omega arith)
-size_one (Next i) d e h = absurd (omega arith)
-size_one Not d e h = omega arith
-size_one And d e h = absurd (omega arith)
-size_one Or d e h = absurd (omega arith)
-size_one Implies d e h = absurd (omega arith)
-size_one Alike d e h = absurd (omega arith)
-size_one Other d e h = absurd (omega arith)
+  begins_not : (l : List ℕ) → None ≡ answer l → operands l ≡ []
+  unfolding worth_of read_expr first
+  begins_not l q = go (operands l) q
+    where
+      go : (es : List Expr) → None ≡ worth_of leaf operator (first es) → es ≡ []
+      go [] h = refl
+      go (e ∷ es) h = cc
 
-pub size_two : (t : Token) (d e : Expr) → operand_count t ≢ 0 → operand_count t ≢ 1 → size (node t d e) ≡ 1 + size d + size e
-unfolding size node
-size_two (Constant v) d e h k = absurd (h refl)
-size_two (Now i) d e h k = absurd (h refl)
-size_two (Next i) d e h k = absurd (h refl)
-size_two Not d e h k = absurd (k refl)
-size_two And d e h k = omega (arith, length-append (written d) (written e))
-size_two Or d e h k = omega (arith, length-append (written d) (written e))
-size_two Implies d e h k = omega (arith, length-append (written d) (written e))
-size_two Alike d e h k = omega (arith, length-append (written d) (written e))
-size_two Other d e h k = absurd (h refl)
+  -- what a call on the part from k on answers
+  pub at_part : (s : List ℕ) (k : ℕ) {y : Option (A × ℕ)} → y ≡ worth_of leaf operator (read_expr (take (length s - k) (drop k s))) → y ≡ answer (drop k s)
+  at_part s k q = q ∙ ap (λ l. worth_of leaf operator (read_expr l)) (part_to_end s k)
 
-pub value_node : (t : Token) (d e : Expr) (now next : ℕ) → operand_count t ≢ 0 → value (node t d e) now next ≡ combined t (value d now next) (value e now next)
-unfolding value node
-value_node (Constant v) d e now next h = absurd (h refl)
-value_node (Now i) d e now next h = absurd (h refl)
-value_node (Next i) d e now next h = absurd (h refl)
-value_node Not d e now next h = refl
-value_node And d e now next h = refl
-value_node Or d e now next h = refl
-value_node Implies d e now next h = refl
-value_node Alike d e now next h = refl
-value_node Other d e now next h = absurd (h refl)
+  -- ---- each way out of the recursion
 
--- `!` looks at its one operand only
-pub combined_one : (t : Token) (x y z : Bool) → operand_count t ≡ 1 → combined t x y ≡ combined t x z
-combined_one (Constant v) x y z h = absurd (omega arith)
-combined_one (Now i) x y z h = absurd (omega arith)
-combined_one (Next i) x y z h = absurd (omega arith)
-combined_one Not x y z h = refl
-combined_one And x y z h = absurd (omega arith)
-combined_one Or x y z h = absurd (omega arith)
-combined_one Implies x y z h = absurd (omega arith)
-combined_one Alike x y z h = absurd (omega arith)
-combined_one Other x y z h = absurd (omega arith)
+  pub nothing_left : (s : List ℕ) → None ≡ slice_get s 0 → None ≡ answer s
+  unfolding operands
+  nothing_left [] q = answer_none [] refl
+  nothing_left (x ∷ s) q = cc
+
+  module _ {s : List ℕ} {t : Token} {n : ℕ} (o : Opens s t n) where
+    by_count : Takes t n
+    by_count = subst (Takes t) o.count (takes t)
+
+    pub alone : n ≡ 0 → worth_of leaf operator (first (before t [])) ≡ answer s
+    unfolding read_expr
+    alone h = go n by_count h
+      where
+        go : (m : ℕ) → Takes t m → m ≡ 0 → worth_of leaf operator (first (before t [])) ≡ worth_of leaf operator (first (operands s))
+        go m (takes_none p) h = ap (worth_of leaf operator) (sym (ap first o.opened ∙ p (operands (drop 1 s))))
+        go m (takes_one f p z w) h = absurd (omega arith)
+        go m (takes_two f p z w) h = absurd (omega arith)
+
+    pub no_first : n ≢ 0 → None ≡ answer (drop 1 s) → None ≡ answer s
+    unfolding with_one with_two
+    no_first h q = answer_none s (o.opened ∙ ap (before t) (begins_not (drop 1 s) q) ∙ go n by_count h)
+      where
+        go : (m : ℕ) → Takes t m → m ≢ 0 → before t [] ≡ []
+        go m (takes_none p) h = absurd (h refl)
+        go m (takes_one f p z w) h = p []
+        go m (takes_two f p z w) h = p []
+
+    module _ {x : A} {a : ℕ} (q : Some (x, a) ≡ answer (drop 1 s)) where
+      -- the first operand ends within the text
+      pub first_fits : 1 + a ≤ length s
+      first_fits = omega (arith, (begins (drop 1 s) q).fits, length-drop 1 s, o.filled)
+
+      behind : operands (drop a (drop 1 s)) ≡ operands (drop (1 + a) s)
+      behind = ap operands (drop-drop a 1 s)
+
+      pub one_operand : n ≡ 1 → Some (operator t x x, 1 + a) ≡ answer s
+      unfolding with_one
+      one_operand h = go n by_count h
+        where
+          go : (m : ℕ) → Takes t m → m ≡ 1 → Some (operator t x x, 1 + a) ≡ answer s
+          go m (takes_none p) h = absurd (omega arith)
+          go m (takes_one f p z w) h =
+              let b = begins (drop 1 s) q in
+              answer_some s (f b.tree) (operands (drop a (drop 1 s))) (o.opened ∙ ap (before t) b.stands ∙ p _)
+              (ap (λ v. operator t v v) b.is_worth ∙ sym (w b.tree)) (ap (λ k. 1 + k) b.bytes ∙ sym (z b.tree))
+          go m (takes_two f p z w) h = absurd (omega arith)
+
+      pub no_second : n ≢ 0 → n ≢ 1 → None ≡ answer (drop (1 + a) s) → None ≡ answer s
+      unfolding with_two
+      no_second h k r = go n by_count h k
+        where
+          go : (m : ℕ) → Takes t m → m ≢ 0 → m ≢ 1 → None ≡ answer s
+          go m (takes_none p) h k = absurd (h refl)
+          go m (takes_one f p z w) h k = absurd (k refl)
+          go m (takes_two f p z w) h k =
+              let b = begins (drop 1 s) q in
+              answer_none s (o.opened ∙ ap (before t) (b.stands ∙ ap (λ es. b.tree ∷ es) (behind ∙ begins_not (drop (1 + a) s) r)) ∙ p _)
+
+      module _ {y : A} {b : ℕ} (r : Some (y, b) ≡ answer (drop (1 + a) s)) where
+        -- the second operand ends within the text too
+        pub both_fit : 1 + a + b ≤ length s
+        both_fit = omega (arith, (begins (drop (1 + a) s) r).fits, length-drop (1 + a) s, first_fits)
+
+        pub two_operands : n ≢ 0 → n ≢ 1 → Some (operator t x y, 1 + a + b) ≡ answer s
+        unfolding with_two
+        two_operands h k = go n by_count h k
+          where
+            go : (m : ℕ) → Takes t m → m ≢ 0 → m ≢ 1 → Some (operator t x y, 1 + a + b) ≡ answer s
+            go m (takes_none p) h k = absurd (h refl)
+            go m (takes_one f p z w) h k = absurd (k refl)
+            go m (takes_two f p z w) h k =
+                let d = begins (drop 1 s) q in
+                let e = begins (drop (1 + a) s) r in
+                answer_some s (f d.tree e.tree) (operands (drop b (drop (1 + a) s)))
+                (o.opened ∙ ap (before t) (d.stands ∙ ap (λ es. d.tree ∷ es) (behind ∙ e.stands)) ∙ p _)
+                (ap₂ (operator t) d.is_worth e.is_worth ∙ sym (w d.tree e.tree))
+                (ap₂ (λ i j. 1 + i + j) d.bytes e.bytes ∙ sym (z d.tree e.tree))

@@ -1,34 +1,32 @@
 -- What the functions of this crate answer of the expression that a slice begins with: how many bytes it has, and its values at 64 next states.
 -- From `Reading`, and the tree's own size and value.
-use Rattle.std.specs.Prelude.{ℕ, ◌+◌, ◌*◌, Bool, not, ◌&&◌, ◌||◌, false, List}
+use Rattle.std.specs.Prelude.{ℕ, ◌+◌, ◌*◌, Bool, not, ◌&&◌, ◌||◌, false, List, Option, Some, None}
 use Rattle.std.specs.Bool.{beq}
-use Rattle.std.proofs.Math.Option.{Option, none, some}
+use Rattle.std.proofs.Math.Option.{Option as Found, none, some}
+use Rattle.sets.specs.Bit.{has}
 use Rattle.sets.specs.Gathered.{set_of}
 use Rattle.exprs.specs.declared.token.Token.{Token}
 use Rattle.exprs.specs.declared.token.Token.TheVariants.{Constant, Now, Next, Not, And, Or, Implies, Alike, Other}
-use Rattle.exprs.specs.declared.reading.Extent.{Extent}
-use Rattle.exprs.specs.declared.reading.Extent.TheVariants.{Used, NoExpression}
-use Rattle.exprs.specs.declared.words.Worded.{Worded}
-use Rattle.exprs.specs.declared.words.Worded.TheVariants.{Word, NoWord}
 use Rattle.exprs.specs.Expr.{Expr, value, size}
 use Rattle.exprs.specs.Reading.{read_expr}
 
-unfoldable pub used_by : Option Expr → Extent
-used_by none = NoExpression
-used_by (some e) = Used (size e)
+-- the bytes of what was found
+unfoldable pub used_by : Found Expr → Option ℕ
+used_by none = None
+used_by (some e) = Some (size e)
 
 -- the bytes of the expression that s begins with
-unfoldable pub read_of : List ℕ → Extent
+unfoldable pub read_of : List ℕ → Option ℕ
 unfolding used_by
 read_of s = used_by (read_expr s)
 
--- bit t of the word is the value at the next state 64 * block + t
-unfoldable pub words_in : ℕ → ℕ → Option Expr → Worded
-words_in now block none = NoWord
-words_in now block (some e) = Word (set_of 64 (λ t. value e now (64 * block + t))) (size e)
+-- the values of what was found, and its bytes: bit t of the word is the value at the next state 64 * block + t
+unfoldable pub words_in : ℕ → ℕ → Found Expr → Option (ℕ × ℕ)
+words_in now block none = None
+words_in now block (some e) = Some (set_of 64 (λ t. value e now (64 * block + t)), size e)
 
 -- the values of the expression that s begins with at 64 next states, and its bytes
-unfoldable pub words_of : List ℕ → ℕ → ℕ → Worded
+unfoldable pub words_of : List ℕ → ℕ → ℕ → Option (ℕ × ℕ)
 unfolding words_in
 words_of s now block = words_in now block (read_expr s)
 
@@ -43,3 +41,19 @@ combined Or x y = x || y
 combined Implies x y = not x || y
 combined Alike x y = beq x y
 combined Other x y = false
+
+-- an operator at the words of its operands
+abbrev pub combined_word : Token → ℕ → ℕ → ℕ
+combined_word t x y = set_of 64 (λ i. combined t (has x i) (has y i))
+
+-- a byte at 64 next states, where no operand follows
+abbrev pub leaf_word : ℕ → ℕ → Token → ℕ
+leaf_word now block (Constant v) = set_of 64 (λ t. v)
+leaf_word now block (Now i) = set_of 64 (λ t. has now i)
+leaf_word now block (Next i) = set_of 64 (λ t. has (64 * block + t) i)
+leaf_word now block Not = 0
+leaf_word now block And = 0
+leaf_word now block Or = 0
+leaf_word now block Implies = 0
+leaf_word now block Alike = 0
+leaf_word now block Other = 0

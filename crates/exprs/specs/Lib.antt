@@ -3,5 +3,6 @@
 pub mod Token
 pub mod Expr
 pub mod Reading
+pub mod Folded
 pub mod Answers
 pub mod Laws

@@ -3,7 +3,7 @@ ghost use Rattle.std.specs.Prelude.{◌≡◌};
 ghost use Rattle.exprs.specs.Token.{token_of, operand_count};
 
 // What one byte stands for. A letter has its place in the alphabet: 0 for `a` and `A`.
-#[derive(Clone, Copy)]
+#[derive(Clone, Copy, Debug, PartialEq, Eq)]
 pub enum Token {
     Constant(bool),
     Now(u8),
@@ -39,14 +39,8 @@ pub(crate) fn operand_count(t: Token) -> usize
     ensures { result ≡ operand_count t }
 {
     match t {
-        Token::Constant(_) => 0,
-        Token::Now(_) => 0,
-        Token::Next(_) => 0,
         Token::Not => 1,
-        Token::And => 2,
-        Token::Or => 2,
-        Token::Implies => 2,
-        Token::Alike => 2,
-        Token::Other => 0,
+        Token::And | Token::Or | Token::Implies | Token::Alike => 2,
+        _ => 0,
     }
 }

@@ -1,75 +1,86 @@
 -- What masks and tables that were filled from a text answer is what the model means: the verdicts, MUST, the tables of the cores and the cuts; and what is
 -- read off these. From the laws of the filled tables (`semantics`) and of lists of judgements that agree (`sets`). Assumes nothing.
-use Prim.Native.Nat.{ℕ}
-use mathlib.Core.Path.{◌≡◌, ap, ap₂, ◌∙◌}
-use mathlib.Core.List.{List}
+use Rattle.std.specs.Prelude.{ℕ, ◌≡◌, Bool, List}
+use Rattle.std.proofs.Common.{◌∙◌}
+use Rattle.std.proofs.Math.Path.{ap, ap₂}
+use denote.Ref.{MutBor}
 use Rattle.sets.specs.Cores.{is_core, is_cut}
-use mathlib.Core.Bool.{Bool}
-use Rattle.sets.specs.Lists.{list_of, cores_of, cuts_of, must_of, common, overwritten}
+use Rattle.sets.specs.Lists.{list_of, cores_of, cuts_of, must_of, common}
 use Rattle.sets.specs.Kinds.{some_of}
-use Rattle.sets.specs.Laws.Growth.{is_core_agree, is_cut_agree, cores_of_agree}
+use Rattle.sets.specs.Laws.Growth.{is_core_agree, is_cut_agree, cores_of_agree, list_of_agree}
 use Rattle.sets.proofs.Laws.Kinds.{some_less_must, full_less_some}
 use Rattle.models.specs.declared.model.Model.{Model}
 use Rattle.models.specs.Written.{described}
-use Rattle.systems.specs.declared.tables.Tables.{Tables}
+use Rattle.systems.specs.declared.systems.Systems.{Systems}
 use Rattle.systems.specs.ByTables.{judge_by}
 use Rattle.semantics.specs.Meaning.{judge}
-use Rattle.semantics.specs.TablesOf.{masks_of, tables_of, RoomFor}
-use Rattle.semantics.proofs.Laws.Filled.{rules_are, room, same_verdict, filled_monotone}
-use Rattle.sorting.specs.declared.which.WhichList.{WhichList}
-use Rattle.sorting.specs.declared.which.WhichList.TheVariants.{Cores, Cuts}
+use Rattle.semantics.specs.TablesOf.{Filled}
+use Rattle.semantics.proofs.Laws.Filled.{rules_are, same_verdict}
 use Rattle.sorting.specs.declared.kinds.Kinds.{Kinds}
 use Rattle.sorting.specs.Kinds.{kinds_by, kinds_of}
-use Rattle.marks.specs.Marks.{marked, table_by, Room}
-use Rattle.marks.specs.Laws.Marks.{table_by_agree, front_room, front_listed}
-use Rattle.cores.specs.Seeds.{Judges}
-use Rattle.sorting.specs.Which.{listed}
-use Rattle.finding.specs.Lists.{table_of}
-use Rattle.finding.specs.Finding.{RoomForSets}
+use Rattle.marks.specs.Marks.{marked, table_by}
+use Rattle.marks.specs.declared.table.MarkedSets.{MarkedSets}
+use Rattle.marks.specs.Laws.Marks.{table_by_agree, table_by_marks}
+use Rattle.finding.specs.Finding.{Found, TakesFound, AnswersByFound}
 
-module _ (text : List ℕ) {before : List ℕ} {m : Model} (r : RoomFor m before) {masks : List ℕ} {t : Tables}
-    (p : masks ≡ masks_of before (described text m)) (q : t ≡ tables_of (described text m)) where
-  pub judges : Judges masks t
-  judges = record { room = room text r p q; few = rw (rules_are text r p q) r.few.rules; more = rw (p, q) (filled_monotone before text m r) }
-
-  pub must_is : {S : ℕ} → S ≡ must_of t.rules (judge_by masks t) → S ≡ must_of m.rules (judge (described text m))
+module _ {text : List ℕ} {m : Model} {s : Systems} (f : Filled text m s) where
+  pub must_is : {S : ℕ} → S ≡ must_of s.tables.now.rules (judge_by s.masks.now s.tables.now) → S ≡ must_of m.rules (judge (described text m))
   unfolding must_of
   must_is e =
-      e ∙ ap (λ (R : ℕ). must_of R (judge_by masks t)) (rules_are text r p q)
-      ∙ ap common (cores_of_agree m.rules (judge_by masks t) (judge (described text m)) (same_verdict text r p q))
+      e ∙ ap (λ (R : ℕ). must_of R (judge_by s.masks.now s.tables.now)) (rules_are f)
+      ∙ ap common (cores_of_agree m.rules (judge_by s.masks.now s.tables.now) (judge (described text m)) (same_verdict f))
 
   -- the tables of the cores and of the cuts
-  pub cores_are : table_by t.rules (is_core (judge_by masks t)) ≡ table_by m.rules (is_core (judge (described text m)))
-  cores_are =
-      ap (λ (R : ℕ). table_by R (is_core (judge_by masks t))) (rules_are text r p q)
-      ∙ table_by_agree m.rules (is_core (judge_by masks t)) (is_core (judge (described text m)))
-      (is_core_agree m.rules (judge_by masks t) (judge (described text m)) (same_verdict text r p q))
+  found_is : {cores cuts : MarkedSets} → Found s.tables.now.rules (judge_by s.masks.now s.tables.now) cores cuts → Found m.rules (judge (described text m)) cores cuts
+  found_is g = record {
+    cores_rules = g.cores_rules ∙ rules_are f;
+    cores_are =
+        g.cores_are ∙ ap (λ (R : ℕ). table_by R (is_core (judge_by s.masks.now s.tables.now))) (rules_are f)
+        ∙ table_by_agree m.rules _ _ (is_core_agree m.rules (judge_by s.masks.now s.tables.now) (judge (described text m)) (same_verdict f));
+    cuts_rules = g.cuts_rules ∙ rules_are f;
+    cuts_are =
+        g.cuts_are ∙ ap (λ (R : ℕ). table_by R (is_cut R (judge_by s.masks.now s.tables.now))) (rules_are f)
+        ∙ table_by_agree m.rules _ _ (is_cut_agree m.rules (judge_by s.masks.now s.tables.now) (judge (described text m)) (same_verdict f));
+  }
 
-  pub cuts_are : table_by t.rules (is_cut t.rules (judge_by masks t)) ≡ table_by m.rules (is_cut m.rules (judge (described text m)))
-  cuts_are =
-      ap (λ (R : ℕ). table_by R (is_cut R (judge_by masks t))) (rules_are text r p q)
-      ∙ table_by_agree m.rules (is_cut m.rules (judge_by masks t)) (is_cut m.rules (judge (described text m)))
-      (is_cut_agree m.rules (judge_by masks t) (judge (described text m)) (same_verdict text r p q))
+  -- so a closure may be called by them, and what it may answer by them is what it may answer of the model
+  pub callable_is : {pre : MarkedSets → MarkedSets → MutBor (List ℕ) → Type 0} {lent shown : List ℕ}
+      → TakesFound pre m.rules (judge (described text m)) lent → shown ≡ lent
+      → TakesFound pre s.tables.now.rules (judge_by s.masks.now s.tables.now) shown
+  callable_is a e = record { at = λ cores cuts bytes g same. a.at cores cuts bytes (found_is g) (same ∙ e) }
+
+  pub answered_is : {A : Type 0} {post : MarkedSets → MarkedSets → MutBor (List ℕ) → A → MutBor (List ℕ) → Type 0} {lent shown left lent' : List ℕ} {r : A}
+      → shown ≡ lent → left ≡ lent' → AnswersByFound post s.tables.now.rules (judge_by s.masks.now s.tables.now) shown r left
+      → AnswersByFound post m.rules (judge (described text m)) lent r lent'
+  answered_is e g a = record {
+    cores = a.cores;
+    cuts = a.cuts;
+    found = found_is a.found;
+    shown = a.shown;
+    shows = a.shows ∙ e;
+    left = a.left;
+    answered = a.answered;
+    leaves = a.leaves ∙ g;
+  }
 
 kind : (must may irrelevant : ℕ) → Kinds
 kind must may irrelevant = record { must = must; may = may; irrelevant = irrelevant }
 
--- what is read off tables of the sets that h judges, over the front of lent words
-module _ {R : ℕ} (h : ℕ → Bool) {unknown lentCores lentCuts cores cuts : List ℕ} (r : RoomForSets R unknown lentCores lentCuts)
-    (p : cores ≡ overwritten (table_by R (is_core h)) lentCores) (q : cuts ≡ overwritten (table_by R (is_cut R h)) lentCuts) where
-  pub room_cores : Room R cores
-  room_cores = rw p (front_room R (is_core h) lentCores r.in_cores)
+table_lists : (R : ℕ) (p : ℕ → Bool) → list_of R (marked (table_by R p)) ≡ list_of R p
+table_lists R p = list_of_agree R (marked (table_by R p)) p (table_by_marks R p)
 
-  pub room_cuts : Room R cuts
-  room_cuts = rw q (front_room R (is_cut R h) lentCuts r.in_cuts)
+-- what is read off the tables of the sets that h judges
+module _ {R : ℕ} {h : ℕ → Bool} {cores cuts : MarkedSets} (f : Found R h cores cuts) where
+  pub cores_listed : list_of cores.rules (marked cores.table.now) ≡ cores_of R h
+  unfolding cores_of
+  cores_listed = ap₂ (λ (k : ℕ) (l : List ℕ). list_of k (marked l)) f.cores_rules f.cores_are ∙ table_lists R (is_core h)
 
-  pub list_is : (which : WhichList) → list_of R (marked (table_of which cores cuts)) ≡ listed which R h
-  unfolding table_of listed cores_of cuts_of
-  list_is Cores = ap (λ l. list_of R (marked l)) p ∙ front_listed R (is_core h) lentCores
-  list_is Cuts = ap (λ l. list_of R (marked l)) q ∙ front_listed R (is_cut R h) lentCuts
+  pub cuts_listed : list_of cuts.rules (marked cuts.table.now) ≡ cuts_of R h
+  unfolding cuts_of
+  cuts_listed = ap₂ (λ (k : ℕ) (l : List ℕ). list_of k (marked l)) f.cuts_rules f.cuts_are ∙ table_lists R (is_cut R h)
 
-  pub kinds_are : {k : Kinds} → k ≡ kinds_by R (list_of R (marked cores)) → k ≡ kinds_of R h
-  unfolding kind kinds_by kinds_of table_of listed must_of some_of
+  pub kinds_are : {k : Kinds} → k ≡ kinds_by cores.rules (list_of cores.rules (marked cores.table.now)) → k ≡ kinds_of R h
+  unfolding kind kinds_by kinds_of must_of some_of
   kinds_are e =
-      e ∙ ap (kinds_by R) (list_is Cores)
+      e ∙ ap₂ kinds_by f.cores_rules cores_listed
       ∙ ap₂ (kind (must_of R h)) (some_less_must R h) (full_less_some R h)

@@ -1,39 +1,86 @@
-// All cores and all cuts of a model's rules, marked in lent tables.
-ghost use Rattle.std.specs.Prelude.{◌≡◌, false};
-ghost use Rattle.sets.specs.Cores.{is_core, is_cut};
-ghost use Rattle.sets.specs.Lists.{overwritten};
+// All cores and all cuts of a model's rules, in tables that are lent to one closure. The room for the tables lies here, in two sizes: few rules would
+// spend most of their time clearing the large ones.
+ghost use Rattle.std.specs.Prelude.{◌≡◌, ◌^◌, ◌*◌, ◌≤◌};
 ghost use Rattle.models.specs.Written.{described};
+ghost use Rattle.systems.specs.ByTables.{judge_by};
 ghost use Rattle.semantics.specs.Meaning.{judge};
-ghost use Rattle.semantics.specs.TablesOf.{RoomFor, masks_of};
-ghost use Rattle.marks.specs.Marks.{table_by};
-ghost use Rattle.finding.specs.Finding.{RoomForSets};
+ghost use Rattle.semantics.specs.TablesOf.{Few};
+ghost use Rattle.finding.specs.Finding.{TakesFound, AnswersByFound};
 
+use marks::table::MarkedSets;
 use models::model::Model;
+use semantics::filled::with_systems_over;
+use systems::systems::Systems;
 
-// Fills the masks, and marks the cores and the cuts in the front of their tables; what is past it keeps its content. The words that are gone over
-// are no more than the marks take.
-pub(crate) fn find(
-    text: &[u8],
-    m: Model,
-    masks: &mut [u16],
-    unknown: &mut [u64],
-    cores: &mut [u64],
-    cuts: &mut [u64],
-)
-    requires room_for { RoomFor m masks.old }
-    requires room_for_sets { RoomForSets m.rules unknown.old cores.old cuts.old }
-    ensures cores_after { cores.new ≡ overwritten (table_by m.rules (is_core (judge (described text.now m)))) cores.old }
-    ensures cuts_after { cuts.new ≡ overwritten (table_by m.rules (is_cut m.rules (judge (described text.now m)))) cuts.old }
-    ensures masks_after { masks.new ≡ masks_of masks.old (described text.now m) }
-    ensures unknown_after { unknown.new ≡ overwritten (table_by m.rules (λ S. false)) unknown.old }
+// What the closure makes of the cores, the cuts and the lent bytes, by tables of so many words. The words that are gone over are no more than the marks take.
+fn found_in<const WORDS: usize, R, F: FnOnce(MarkedSets, MarkedSets, &mut [u8]) -> R>(
+    systems: Systems,
+    lent: &mut [u8],
+    run: F,
+) -> R
+    requires few { systems.tables.now.rules ≤ 16 }
+    requires room { (2 ^ systems.tables.now.rules ≤ 64 * WORDS) × (WORDS ≤ 1024) }
+    requires callable { TakesFound (F.pre run) systems.tables.now.rules (judge_by systems.masks.now systems.tables.now) lent.old }
+    ensures { let s = systems.entry in AnswersByFound (F.post run) s.tables.now.rules (judge_by s.masks.now s.tables.now) lent.old result lent.new }
 {
-    let t = semantics::tables::fill(text, m, masks);
-    let words = marks::table::word_count(m.rules);
+    let rules = systems.tables.rules;
+    let words = marks::table::word_count(rules);
+    let mut unknown = [0u64; WORDS];
+    let mut cores = [0u64; WORDS];
+    let mut cuts = [0u64; WORDS];
     cores::seeds::find(
-        masks,
-        t,
+        systems,
         &mut unknown[..words],
         &mut cores[..words],
         &mut cuts[..words],
     );
+    let cores = MarkedSets {
+        table: &cores[..words],
+        rules,
+    };
+    let cuts = MarkedSets {
+        table: &cuts[..words],
+        rules,
+    };
+    run(cores, cuts, lent)
+}
+
+// What the closure makes of them and of the lent bytes. Tables of 4 words are enough for at most 8 rules.
+fn found<R, F: FnOnce(MarkedSets, MarkedSets, &mut [u8]) -> R>(
+    systems: Systems,
+    lent: &mut [u8],
+    run: F,
+) -> R
+    requires few { systems.tables.now.rules ≤ 16 }
+    requires callable { TakesFound (F.pre run) systems.tables.now.rules (judge_by systems.masks.now systems.tables.now) lent.old }
+    ensures { let s = systems.entry in AnswersByFound (F.post run) s.tables.now.rules (judge_by s.masks.now s.tables.now) lent.old result lent.new }
+{
+    if systems.tables.rules <= 8 {
+        found_in::<4, _, _>(systems, lent, run)
+    } else {
+        found_in::<1024, _, _>(systems, lent, run)
+    }
+}
+
+// What the closure makes of a model's cores and cuts and of the lent bytes.
+pub(crate) fn with_found<R, F: FnOnce(MarkedSets, MarkedSets, &mut [u8]) -> R>(
+    text: &[u8],
+    m: Model,
+    lent: &mut [u8],
+    run: F,
+) -> R
+    requires few { Few m }
+    requires callable { TakesFound (F.pre run) m.rules (judge (described text.now m)) lent.old }
+    ensures { AnswersByFound (F.post run) m.rules (judge (described text.now m)) lent.old result lent.new }
+{
+    with_systems_over(
+        text,
+        m,
+        lent,
+        |systems: Systems, lent: &mut [u8]| -> R
+            requires few { systems.tables.now.rules ≤ 16 }
+            requires callable { TakesFound (F.pre run) systems.tables.now.rules (judge_by systems.masks.now systems.tables.now) lent.now }
+            ensures { let s = systems.entry in AnswersByFound (F.post run) s.tables.now.rules (judge_by s.masks.now s.tables.now) lent.entry.now result lent.exit.now }
+        { found(systems, lent, run) },
+    )
 }

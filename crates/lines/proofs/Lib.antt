@@ -1,3 +1,4 @@
--- `Laws` has what is proved of reading a line, `Lists` what the proofs of several functions use.
+-- `Laws` has what is proved of reading a line, `Counting` and `Keys` what the proofs of functions use.
 pub mod Laws
-mod Lists
+mod Counting
+mod Keys

@@ -1,6 +1,7 @@
 -- The bytes of a text that is written out, classes of bytes, and how far a text keeps to one.
 -- From document 01, "The model text". Assumes nothing: these are definitions.
-use Rattle.std.specs.Prelude.{ℕ, suc, Bool, true, false, cond, not, ◌&&◌, ◌||◌, List, [], ◌∷◌, ◌++◌, eqb, leb, ltb}
+use Rattle.std.specs.Prelude.{ℕ, Bool, true, false, not, ◌&&◌, ◌||◌, List, [], ◌∷◌, ◌++◌, eqb, leb, ltb}
+use Rattle.std.specs.List.{prefix_len}
 use Prim.Native.Char.{code}
 use Prim.Native.String.{String, [] as nothing, ◌∷◌ as ◌then◌}
 use Rattle.exprs.specs.declared.token.Token.{Token}
@@ -53,5 +54,5 @@ belongs (InExpressionOf n capitals) b = is_token (token_of b) && allowed n capit
 
 -- how many bytes at the start of s are in the class
 unfoldable pub prefix : Class → List ℕ → ℕ
-prefix c [] = 0
-prefix c (b ∷ s) = cond (belongs c b) (suc (prefix c s)) 0
+unfolding belongs
+prefix c s = prefix_len (belongs c) s

@@ -1,23 +1,33 @@
 -- The lines of a model text but for the rule lines, each read by itself: the first of the numbers 1, 2 and 5 to 8 that fits, in the document's order
 -- within a line, or what the line says and how many bytes it has. From document 01, "The model text" and "When a call is turned away". Assumes nothing.
-use Rattle.std.specs.Prelude.{ℕ, zero, suc, ◌+◌, ◌-◌, Bool, false, cond, ◌&&◌, List, eqb, leb, ltb, length, take, drop}
-use Rattle.std.proofs.Math.Option.{Option, none, some}
+use Rattle.std.specs.Prelude.{ℕ, zero, suc, ◌+◌, ◌-◌, Bool, false, cond, ◌&&◌, List, eqb, leb, ltb, length, take, drop, Option, Some, None, Result, Ok, Err}
+use Rattle.std.proofs.Math.Option.{Option as Maybe, none, some}
 use Rattle.exprs.specs.Expr.{Expr, size}
 use Rattle.exprs.specs.Reading.{read_expr}
 use Rattle.lines.specs.declared.classes.Class.{Class}
 use Rattle.lines.specs.declared.classes.Class.TheVariants.{InLine, InExpression, Allowed}
-use Rattle.lines.specs.declared.line.Line.{Line}
-use Rattle.lines.specs.declared.line.Line.TheVariants.{Fault, Read}
-use Rattle.lines.specs.declared.line.End.{End}
-use Rattle.lines.specs.declared.line.End.TheVariants.{At, Missing}
+use Rattle.lines.specs.declared.line.Said.{Said}
 use Rattle.lines.specs.Bytes.{bytes, prefix}
 use Rattle.slices.specs.Same.{same}
 use Rattle.lines.specs.Decimal.{decimal}
+use Rattle.refusals.specs.declared.refusal.Reason.{Reason}
+use Rattle.refusals.specs.Numbers.{number_of}
 
--- the number that refuses a line, 0 if none does
-abbrev pub fault_number : Line → ℕ
-fault_number (Fault number) = number
-fault_number (Read v bytes) = 0
+-- What reading a line gives: the number that refuses it; or what it says, and how many bytes it has with its byte 10. A count line says the count, and
+-- a line with an expression the place within the line where the expression begins.
+pub data Line (A : Type 0) : Type 0 where
+  Fault : (number : ℕ) → Line A
+  Read : (value : A) → (bytes : ℕ) → Line A
+
+-- how a result reads as a line
+abbrev pub line_of : {A : Type 0} → Result (Said A) Reason → Line A
+line_of (Ok said) = Read said.value said.bytes
+line_of (Err reason) = Fault (number_of reason)
+
+-- the number that refuses, 0 if none does
+abbrev pub fault_number_of : {A : Type 0} → Result A Reason → ℕ
+fault_number_of (Ok value) = 0
+fault_number_of (Err reason) = number_of reason
 
 -- the keys with their `=`
 abbrev pub vars_key : List ℕ
@@ -50,9 +60,9 @@ unfolding same line_length
 is_line key s = starts_with key s && ltb (line_length s) (length s)
 
 -- where that line ends
-unfoldable pub end_of : List ℕ → List ℕ → End
+unfoldable pub end_of : List ℕ → List ℕ → Option ℕ
 unfolding is_line line_length
-end_of key s = cond (is_line key s) (At (line_length s)) Missing
+end_of key s = cond (is_line key s) (Some (line_length s)) None
 
 -- what stands between the key and the byte 10
 unfoldable pub value_of : List ℕ → List ℕ → List ℕ
@@ -60,7 +70,7 @@ unfolding line_length
 value_of key s = take (line_length s - length key) (drop (length key) s)
 
 -- a line that says v: its bytes are counted with its byte 10
-unfoldable pub says : ℕ → List ℕ → Line
+unfoldable pub says : {A : Type 0} → A → List ℕ → Line A
 unfolding line_length
 says v s = Read v (line_length s + 1)
 
@@ -77,13 +87,18 @@ unfolding same decimal
 count_in zero v = 0
 count_in (suc n) v = cond (same v (decimal (suc n))) (suc n) (count_in n v)
 
-unfoldable pub counted : ℕ → List ℕ → Line
+-- the same count, if there is one
+abbrev pub count_or_none : ℕ → Option ℕ
+count_or_none zero = None
+count_or_none (suc n) = Some (suc n)
+
+unfoldable pub counted : ℕ → List ℕ → Line ℕ
 unfolding says
 counted zero s = Fault 2
 counted (suc n) s = says (suc n) s
 
 -- `vars` and `rules`: a count of 1 to `most`
-unfoldable pub count_line : List ℕ → ℕ → List ℕ → Line
+unfoldable pub count_line : List ℕ → ℕ → List ℕ → Line ℕ
 unfolding is_line value_of count_in counted
 count_line key most s = cond (is_line key s) (counted (count_in most (value_of key s)) s) (Fault 1)
 
@@ -94,7 +109,7 @@ unfoldable pub all : Class → List ℕ → Bool
 unfolding prefix
 all c e = eqb (prefix c e) (length e)
 
-unfoldable pub is_size : Option Expr → ℕ → Bool
+unfoldable pub is_size : Maybe Expr → ℕ → Bool
 is_size none n = false
 is_size (some t) n = eqb (size t) n
 
@@ -116,6 +131,6 @@ fault_of n capitals e =
     5
 
 -- `init` and `prop` have small letters only
-unfoldable pub state_line : List ℕ → ℕ → List ℕ → Line
+unfoldable pub state_line : List ℕ → ℕ → List ℕ → Line ℕ
 unfolding is_line value_of fault_of unless_fault says
 state_line key n s = cond (is_line key s) (unless_fault Fault (fault_of n false (value_of key s)) (says (length key) s)) (Fault 1)

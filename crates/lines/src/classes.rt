@@ -6,6 +6,8 @@ use exprs::token::Token;
 
 // The bytes that a line, a name, a part of a rule and an expression have; those that the letters of a model allow; and those that both an expression has
 // and the letters allow, so that a legal expression is gone over once.
+// A class is a value and no closure, since the definitions name it (`all InName`), and a closure's contract would have to name it all the same. The number of
+// letters and whether capitals may stand are two values, as the definitions take them (`LegalExpr n capitals`).
 #[derive(Clone, Copy)]
 pub enum Class {
     InLine,
@@ -16,20 +18,11 @@ pub enum Class {
     InExpressionOf(usize, bool),
 }
 
+// Whether an expression may have the byte that stands for t.
 fn is_token(t: Token) -> bool
     ensures { result ≡ is_token t }
 {
-    match t {
-        Token::Constant(_) => true,
-        Token::Now(_) => true,
-        Token::Next(_) => true,
-        Token::Not => true,
-        Token::And => true,
-        Token::Or => true,
-        Token::Implies => true,
-        Token::Alike => true,
-        Token::Other => false,
-    }
+    !matches!(t, Token::Other)
 }
 
 // A letter is among the first `letters`, and a capital one stands only where capitals may.
@@ -37,24 +30,20 @@ fn is_allowed(letters: usize, capitals: bool, t: Token) -> bool
     ensures { result ≡ allowed letters capitals t }
 {
     match t {
-        Token::Constant(_) => true,
         Token::Now(i) => (i as usize) < letters,
         Token::Next(i) => capitals & ((i as usize) < letters),
-        Token::Not => true,
-        Token::And => true,
-        Token::Or => true,
-        Token::Implies => true,
-        Token::Alike => true,
-        Token::Other => true,
+        _ => true,
     }
 }
 
+// Whether the byte b is in the class.
+#[tactic(auto, unfolding(crate::specs::Bytes::belongs))]
 fn in_class(c: Class, b: u8) -> bool
     ensures { result ≡ belongs c b }
 {
     match c {
-        Class::InLine => b != 10,
-        Class::InName => (b'a' <= b) & (b <= b'z') | (b'0' <= b) & (b <= b'9'),
+        Class::InLine => b != b'\n',
+        Class::InName => matches!(b, b'a'..=b'z' | b'0'..=b'9'),
         Class::InPart => b != b':',
         Class::InExpression => is_token(exprs::token::classify(b)),
         Class::Allowed(letters, capitals) => {
@@ -71,12 +60,5 @@ fn in_class(c: Class, b: u8) -> bool
 pub fn prefix_of(c: Class, s: &[u8]) -> usize
     ensures { result ≡ prefix c s.now }
 {
-    let mut i = 0;
-    while i < s.len() {
-        if !in_class(c, s[i]) {
-            return i;
-        }
-        i += 1;
-    }
-    i
+    s.iter().take_while(|b| in_class(c, **b)).count()
 }

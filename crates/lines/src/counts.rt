@@ -1,57 +1,43 @@
 // The count lines: a key with its `=`, and a count.
-ghost use Rattle.std.specs.Prelude.{◌≡◌, ◌&&◌, ◌<◌, leb};
-ghost use Rattle.lines.specs.Lines.{count_in, count_line};
+ghost use Rattle.std.specs.Prelude.{◌≡◌, ◌<◌};
+ghost use Rattle.lines.specs.Lines.{count_in, count_or_none, count_line, line_of};
 
-use crate::line::{End, Line};
+use crate::line::Said;
+use refusals::refusal::Reason;
 
-fn is_digit(b: u8) -> bool
-    ensures { result ≡ (leb 48 b && leb b 57) }
+// The count of one or two digits that v writes in decimal, with no leading zero.
+#[tactic(auto, using(crate::proofs::Counting::by_digits))]
+fn number_in(v: &[u8]) -> Option<usize>
+    ensures { result ≡ count_or_none (count_in 99 v.now) }
 {
-    (b'0' <= b) & (b <= b'9')
-}
-
-// The count of one or two digits that v writes in decimal, with no leading zero; 0 for anything else.
-fn number_in(v: &[u8]) -> usize
-    ensures { result ≡ count_in 99 v.now }
-{
-    if v.len() == 1 {
-        let b = v[0];
-        if is_digit(b) {
-            return (b - b'0') as usize;
+    match v {
+        [b @ b'1'..=b'9'] => Some((b - b'0') as usize),
+        [b @ b'1'..=b'9', c @ b'0'..=b'9'] => {
+            Some((b - b'0') as usize * 10 + (c - b'0') as usize)
         }
-        return 0;
-    }
-    if v.len() != 2 {
-        return 0;
-    }
-    let b = v[0];
-    let c = v[1];
-    if (b != b'0') & (is_digit(b) & is_digit(c)) {
-        (b - b'0') as usize * 10 + (c - b'0') as usize
-    } else {
-        0
+        _ => None,
     }
 }
 
-// No greatest count has more than two digits.
-fn count_in(most: usize, v: &[u8]) -> usize
+// The count of 1 to `most` that v writes. No greatest count has more than two digits.
+#[tactic(auto, using(crate::proofs::Counting::by_number))]
+fn count_in(most: usize, v: &[u8]) -> Option<usize>
     requires { most < 100 }
-    ensures { result ≡ count_in most v.now }
+    ensures { result ≡ count_or_none (count_in most v.now) }
 {
-    let n = number_in(v);
-    if n <= most { n } else { 0 }
+    number_in(v).filter(|n| *n <= most)
 }
 
-pub fn count_line(key: &[u8], most: usize, s: &[u8]) -> Line
+// The line with this key and a count of 1 to `most`.
+#[tactic(auto, using(crate::proofs::Laws::Ended::counts_by_end))]
+pub fn count_line(key: &[u8], most: usize, s: &[u8]) -> Result<Said<usize>, Reason>
     requires { most < 100 }
-    ensures { result ≡ count_line key.now most s.now }
+    ensures { line_of result ≡ count_line key.now most s.now }
 {
-    let End::At(end) = crate::line::end_of(key, s) else {
-        return Line::Fault(1);
-    };
-    let n = count_in(most, slices::parts::part(s, key.len(), end));
-    if n == 0 {
-        return Line::Fault(2);
-    }
-    Line::Read(n, end + 1)
+    let end = crate::line::end_of(key, s).ok_or(Reason::LineMissing)?;
+    let value = count_in(most, slices::parts::part(s, key.len(), end)).ok_or(Reason::CountWrong)?;
+    Ok(Said {
+        value,
+        bytes: end + 1,
+    })
 }

@@ -1,52 +1,57 @@
 // The lines with an expression over the bits now, `init=` and `prop=`, and the refusals 5 to 8 of any expression.
 ghost use Rattle.std.specs.Prelude.{◌≡◌};
-ghost use Rattle.lines.specs.Lines.{is_one, fault_of, state_line};
+ghost use Rattle.lines.specs.Lines.{all, is_one, fault_of, state_line, fault_number_of, line_of};
 
 use crate::classes::Class;
-use crate::line::{End, Line};
-use exprs::reading::Extent;
+use crate::line::Said;
+use refusals::refusal::Reason;
 
 // Whether e is exactly one expression.
 fn is_one(e: &[u8]) -> bool
     ensures { result ≡ is_one e.now }
 {
-    let x = exprs::reading::read(e);
-    match x {
-        Extent::Used(n) => n == e.len(),
-        Extent::NoExpression => false,
-    }
+    exprs::reading::read(e) == Some(e.len())
 }
 
-// The number that refuses the expression e in a model of `vars` letters, or 0.
-pub fn fault_in(vars: usize, capitals: bool, e: &[u8]) -> u8
-    ensures { result ≡ fault_of vars capitals e.now }
+// Whether every byte of e is in the class.
+#[tactic(auto, unfolding(crate::specs::Lines::all))]
+fn all_in(c: Class, e: &[u8]) -> bool
+    ensures { result ≡ all c e.now }
 {
-    let n = e.len();
-    if n < 1 {
-        return 5;
+    crate::classes::prefix_of(c, e) == e.len()
+}
+
+// Whether the expression e may stand in a model of `vars` letters, and if not, why. A legal one is gone over once.
+#[tactic(auto, using(crate::proofs::Laws::Numbers::by_tests))]
+pub fn fault_in(vars: usize, capitals: bool, e: &[u8]) -> Result<(), Reason>
+    ensures { fault_number_of result ≡ fault_of vars capitals e.now }
+{
+    if !matches!(e.len(), 1..=64) {
+        return Err(Reason::LengthWrong);
     }
-    if 64 < n {
-        return 5;
-    }
-    if crate::classes::prefix_of(Class::InExpressionOf(vars, capitals), e) != n {
-        if crate::classes::prefix_of(Class::InExpression, e) != n {
-            return 6;
+    if !all_in(Class::InExpressionOf(vars, capitals), e) {
+        if !all_in(Class::InExpression, e) {
+            return Err(Reason::ByteOther);
         }
-        return 7;
+        return Err(Reason::LetterBeyond);
     }
-    if is_one(e) { 0 } else { 8 }
+    if is_one(e) {
+        Ok(())
+    } else {
+        Err(Reason::NotOneExpression)
+    }
 }
 
-pub fn state_line(key: &[u8], vars: usize, s: &[u8]) -> Line
-    ensures { result ≡ state_line key.now vars s.now }
+// The line with this key and an expression over the bits now, in a model of `vars` letters.
+#[tactic(auto, using(crate::proofs::Laws::Ended::states_by_end))]
+pub fn state_line(key: &[u8], vars: usize, s: &[u8]) -> Result<Said<usize>, Reason>
+    ensures { line_of result ≡ state_line key.now vars s.now }
 {
-    let End::At(end) = crate::line::end_of(key, s) else {
-        return Line::Fault(1);
-    };
-    let from = key.len();
-    let number = fault_in(vars, false, slices::parts::part(s, from, end));
-    if number != 0 {
-        return Line::Fault(number);
-    }
-    Line::Read(from, end + 1)
+    let end = crate::line::end_of(key, s).ok_or(Reason::LineMissing)?;
+    let value = key.len();
+    fault_in(vars, false, slices::parts::part(s, value, end))?;
+    Ok(Said {
+        value,
+        bytes: end + 1,
+    })
 }

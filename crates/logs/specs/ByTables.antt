@@ -1,10 +1,8 @@
 -- The rules as masks and tables tell them: a pair of states meets the step part of the rules in its mask, and a state the start part of those in its
 -- entry of the row behind those of the states. Assumes nothing: these are definitions.
-use Rattle.std.specs.Prelude.{ℕ, ◌+◌, ◌*◌, ◌≤◌, Bool, List, get_or}
+use Rattle.std.specs.Prelude.{ℕ, ◌+◌, ◌*◌, Bool, List, get_or}
 use Rattle.sets.specs.Bit.{has}
 use Rattle.systems.specs.declared.tables.Tables.{Tables}
-use Rattle.systems.specs.ByTables.{HasRoom}
-use Rattle.logs.specs.Log.{IsLog}
 
 unfoldable pub start_met_by : (masks : List ℕ) → Tables → ℕ → ℕ → Bool
 unfolding has
@@ -13,9 +11,3 @@ start_met_by masks t i s = has (get_or masks (128 * t.states + s) 0) i
 unfoldable pub step_met_by : (masks : List ℕ) → ℕ → ℕ → ℕ → Bool
 unfolding has
 step_met_by masks i s u = has (get_or masks (128 * s + u) 0) i
-
--- A log of the states that the masks have rows for, and at most 16 rules.
-pub record Readable (masks : List ℕ) (t : Tables) (log : List ℕ) : Type 0 where
-  pub room : HasRoom masks t
-  pub few : t.rules ≤ 16
-  pub states : IsLog t.states log

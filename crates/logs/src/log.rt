@@ -8,11 +8,8 @@ pub fn is_log(log: &[u8], states: usize) -> bool
     ensures { result ≡ is_log states log.now }
 {
     let bound = states as u8;
-    let mut beyond = false;
-    let mut k = 0;
-    while k < log.len() {
-        beyond = beyond | (bound <= log[k]);
-        k += 1;
-    }
-    (0 < log.len()) & !beyond
+    let beyond = log
+        .iter()
+        .fold(false, |beyond, state| beyond | (bound <= *state));
+    !log.is_empty() & !beyond
 }

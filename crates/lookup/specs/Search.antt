@@ -1,25 +1,15 @@
 -- A list of sets in bytes: the first of its sets that passes a test, as the search gives it and as it is meant.
 -- From document 02, "Quick answer in the configuration screen". Assumes nothing: these are definitions.
-use Rattle.std.specs.Prelude.{ℕ, suc, ◌+◌, ◌*◌, ◌%◌, ◌<◌, ◌≡◌, Bool, cond, List, [], ◌∷◌, length, get_or}
-use Rattle.sets.specs.Sets.{part, apart}
-use Rattle.lookup.specs.declared.search.Fit.{Fit}
-use Rattle.lookup.specs.declared.search.Fit.TheVariants.{Inside, Apart}
-use Rattle.lookup.specs.declared.search.Found.{Found}
-use Rattle.lookup.specs.declared.search.Found.TheVariants.{At, Nowhere}
+use Rattle.std.specs.Prelude.{ℕ, suc, ◌+◌, ◌*◌, ◌%◌, ◌<◌, ◌≡◌, Bool, cond, Option, Some, None, List, [], ◌∷◌, length, get_or}
 
 -- The first listed set that passes the test q, by its place: that of the first of its two bytes. These bytes of the list begin at `place`.
-unfoldable pub first_from : (ℕ → Bool) → ℕ → List ℕ → Found
-first_from q place [] = Nowhere
-first_from q place (odd ∷ []) = Nowhere
-first_from q place (low ∷ high ∷ rest) = cond (q (low + 256 * high)) (At place) (first_from q (suc (suc place)) rest)
+unfoldable pub first_from : (ℕ → Bool) → ℕ → List ℕ → Option ℕ
+first_from q place [] = None
+first_from q place (odd ∷ []) = None
+first_from q place (low ∷ high ∷ rest) = cond (q (low + 256 * high)) (Some place) (first_from q (suc (suc place)) rest)
 
-unfoldable pub first_in : (ℕ → Bool) → List ℕ → Found
+unfoldable pub first_in : (ℕ → Bool) → List ℕ → Option ℕ
 first_in q list = first_from q 0 list
-
--- The test for what a listed set C is to be to the set S that is looked up: a part of it, or without a rule in it.
-unfoldable pub fits : Fit → ℕ → ℕ → Bool
-fits Inside S C = part C S
-fits Apart S C = apart C S
 
 -- ---- what it means
 

@@ -4,6 +4,9 @@ use Prim.Native.Nat.{ℕ, ◌+◌, ◌-◌, ◌*◌, ◌/◌, ◌%◌, ◌^◌, 
 use mathlib.Core.Path.{◌≡◌, sym, ap, ◌∙◌}
 use mathlib.Core.Logic.{◌≢◌}
 use mathlib.Core.Bool.{Bool, true, false}
+use Rattle.std.specs.Prelude.{Some, None, length}
+use Rattle.std.specs.List.{AllWithin, HoldsAt, between}
+use Rattle.std.proofs.lemmas.List.Edits.{get_or-between, length-between}
 use mathlib.Core.List.{List}
 use native.Mathlib.Omega.{arith}
 use native.Mathlib.Decide.{dec_lt}
@@ -14,7 +17,8 @@ use Rattle.sets.specs.Bit.{has}
 use Rattle.sets.specs.Laws.Bit.{has_high, has_below, has_zero}
 use Rattle.sets.specs.Laws.Cores.{false_if}
 use Rattle.sets.specs.Laws.First.{first_has, first_least}
-use Rattle.sets.specs.Next.{NextFrom}
+use Rattle.sets.specs.Next.{NextFrom, next_if_any}
+use Rattle.sets.specs.Laws.Next.{is_some_next, is_none_next, next_is_none}
 use Rattle.marks.specs.Marks.{marked}
 
 -- no number from the place on and before s passes
@@ -89,10 +93,51 @@ after_passed {p} {from} {s} {end} {r} q l f =
     at k a h (yes y) = q.none k a y
     at k a h (no n) = f.passed k (omega arith) h
 
--- the same below a nearer end
-module _ {p : ℕ → Bool} {from end top r : ℕ} (f : NextFrom p from top r) (l : end ≤ top) where
-  pub before_end : r < end → NextFrom p from end r
-  before_end h = record { within = omega arith; after = λ a. f.after (omega arith); passes = λ _. f.passes (omega arith); passed = f.passed }
+-- the words from `word` on and before `words`, of which the first so many are empty
+module _ (table : List ℕ) (word words : ℕ) (l : words ≤ length table) where
+  words_passed : (n : ℕ) → word + n ≤ words → AllWithin (λ (x : ℕ). x ≡ 0) (between word words table) 0 n → Passed (marked table) (64 * word) (64 * (word + n))
+  unfolding marked
+  words_passed n m empty =
+      record {
+        after = omega arith;
+        none = λ k a b.
+            let here : word + (k / 64 - word) ≡ k / 64 = omega arith in
+            let e = sym (get_or-between table word words (k / 64 - word) 0 (omega arith)) ∙ empty (k / 64 - word) 0 (omega arith) (omega arith) in
+            rw (rw here at e) (false_if (has 0 (k % 64)) (has_zero (k % 64)));
+      }
 
-  pub at_end : end ≤ r → NextFrom p from end end
-  at_end h = record { within = omega arith; after = λ a. a; passes = λ a. absurd (omega arith); passed = λ k a b. f.passed k a (omega arith) }
+  pub all_empty : word ≤ words → AllWithin (λ (x : ℕ). x ≡ 0) (between word words table) 0 (length (between word words table))
+      → None ≡ next_if_any (marked table) (64 * word) (64 * words)
+  all_empty h empty =
+      let n : word + length (between word words table) ≡ words = omega (arith, length-between {X = ℕ}) in
+      let q = words_passed (length (between word words table)) (omega arith) empty in
+      sym (is_none_next _ (λ k a b. q.none k a (omega arith)))
+
+  pub first_filled : ((w : ℕ) → get_or table w 0 < 2 ^ 64)
+      → (n : ℕ) → (n < length (between word words table)) × HoldsAt (λ (x : ℕ). x ≢ 0) (between word words table) n × AllWithin (λ (x : ℕ). x ≡ 0) (between word words table) 0 n
+      → Some (64 * (word + n) + count_trailing_zeros 64 (get_or table (word + n) 0)) ≡ next_if_any (marked table) (64 * word) (64 * words)
+  first_filled small n f =
+      let m : word + n < words = omega (arith, length-between {X = ℕ}) in
+      let some : get_or table (word + n) 0 ≢ 0 = rw (← get_or-between table word words n 0 m) (f.1 0) in
+      let here = whole_word table (word + n) (small (word + n)) in
+      let q = words_passed n (omega arith) f.2 in
+      let next = first_one here q some (64 * words) (omega arith) in
+      let below = here.inside (count_trailing_zeros 64 (get_or table (word + n) 0)) (first_has 64 (get_or table (word + n) 0) some (small (word + n))) in
+      sym (is_some_next _ (next.after (omega arith)) (omega arith) next)
+
+-- what is said of the next number below a nearer end, if there is one
+module _ {p : ℕ → Bool} {from end top : ℕ} (l : end ≤ top) (s : from < end) where
+  pub found_below : {r : ℕ} → NextFrom p from top r → r < end → Some r ≡ next_if_any p from end
+  found_below f h =
+      sym
+      (is_some_next p (f.after (omega arith)) h (record { within = omega arith; after = λ a. f.after (omega arith); passes = λ _. f.passes (omega arith); passed = f.passed }))
+
+  pub none_below : {r : ℕ} → NextFrom p from top r → end ≤ r → None ≡ next_if_any p from end
+  none_below f h = sym (is_none_next p (λ k a b. f.passed k a (omega arith)))
+
+  pub none_found : {s : ℕ} → Passed p from s → next_if_any p s top ≡ None → None ≡ next_if_any p from end
+  none_found {s} q e = sym (is_none_next p (λ k a b. at k a b (dec_lt k s)))
+    where
+      at : (k : ℕ) → from ≤ k → k < end → Dec (k < s) → p k ≡ false
+      at k a b (yes y) = q.none k a y
+      at k a b (no n) = next_is_none p e k (omega arith) (omega arith)

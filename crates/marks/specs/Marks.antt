@@ -21,6 +21,11 @@ pub record Room (R : ℕ) (table : List ℕ) : Type 0 where
   pub few : R ≤ 16
   pub room : 2 ^ R ≤ 64 * length table
 
+-- A bound of the sets that a table has room for: no more than all sets of 16 rules.
+pub record Ending (end : ℕ) (table : List ℕ) : Type 0 where
+  pub few : end ≤ 65536
+  pub room : end ≤ 64 * length table
+
 -- No number that is no set of R rules has a mark.
 pub record NonePast (R : ℕ) (table : List ℕ) : Type 0 where
   pub none : (S : ℕ) → 2 ^ R ≤ S → S < 64 * length table → marked table S ≡ false

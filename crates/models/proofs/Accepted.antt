@@ -9,14 +9,14 @@ use Rattle.lines.specs.Lines.{vars_key, rules_key, init_key}
 use Rattle.lines.specs.Written.{line, written_rule}
 use Rattle.lines.specs.Laws.Decimal.{decimal_one}
 use Rattle.lines.proofs.Laws.Lines.{length_line}
-use Rattle.models.specs.declared.model.Outcome.TheVariants.{Accepted}
+use Rattle.refusals.specs.Answers.{Accepted, outcome_of}
 use Rattle.models.specs.Reading.{read_model}
 use Rattle.models.specs.Written.{Described, Legal, written_property, written_model, model_in}
 use Rattle.models.proofs.Laws.Written.{found_is_described, written_is_found, accepted_is_written, accepted_is_found, written_lines, length_five, rules_length, properties_length, decimal_length}
 
 -- a text is accepted exactly when it is the written form of a legal model
-pub accepts_what_is_written : (text : List ℕ) → ((read_model text).outcome ≡ Accepted) ↔ ((M : Described) × Legal M × (text ≡ written_model M))
-accepts_what_is_written text = (accepted_is_written text, λ m. ap (λ t. (read_model t).outcome) m.2 ∙ (written_is_found m.0 m.1).accepted)
+pub accepts_what_is_written : (text : List ℕ) → (outcome_of (read_model text) ≡ Accepted) ↔ ((M : Described) × Legal M × (text ≡ written_model M))
+accepts_what_is_written text = (accepted_is_written text, λ m. ap (λ t. outcome_of (read_model t)) m.2 ∙ (written_is_found m.0 m.1).accepted)
 
 -- The text is the written form of the model that it tells, which is legal.
 pub record Told (text : List ℕ) : Type 0 where
@@ -24,7 +24,7 @@ pub record Told (text : List ℕ) : Type 0 where
   pub written : text ≡ written_model (model_in text)
 
 -- an accepted text tells its model
-pub told : (text : List ℕ) → (read_model text).outcome ≡ Accepted → Told text
+pub told : (text : List ℕ) → outcome_of (read_model text) ≡ Accepted → Told text
 unfolding model_in
 told text q =
     let w = accepted_is_found text q in

@@ -3,7 +3,7 @@
 -- more than one property line, or start parts (document 02). The theorem is in `Refused`: it is computed from the texts as printed here. Assumes nothing: these are definitions.
 use Rattle.std.specs.Prelude.{ℕ, ◌≡◌, List, [], ◌∷◌, ◌++◌}
 use Rattle.lines.specs.Bytes.{bytes, ended_lines}
-use Rattle.models.specs.declared.model.Outcome.TheVariants.{Refused}
+use Rattle.refusals.specs.Answers.{Refused, outcome_of}
 use Rattle.models.specs.Reading.{read_model}
 use Rattle.models.specs.Refusals.{FitsAt}
 
@@ -174,5 +174,5 @@ overlaps =
 
 -- What is proved of a row.
 pub record Overlapping (c : Overlap) : Type 0 where
-  pub refused : (read_model c.text).outcome ≡ Refused c.number c.line
+  pub refused : outcome_of (read_model c.text) ≡ Refused c.number c.line
   pub also : FitsAt c.text c.other c.other_line

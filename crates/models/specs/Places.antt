@@ -10,7 +10,5 @@ places_by_property j m = record {
   init = m.init;
   properties = 1;
   props = get_or m.props j 0 ∷ 0 ∷ 0 ∷ 0 ∷ [];
-  names = m.names;
-  steps = m.steps;
-  starts = m.starts;
+  parts = m.parts;
 }

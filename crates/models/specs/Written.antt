@@ -1,7 +1,7 @@
 -- A model as document 01, "The model text", and document 02 describe it: what it consists of, when it is legal, its written form, and the model that a text
 -- tells. `Rattle.models.proofs.Accepted` shows that the reading accepts exactly the written forms of legal models.
 -- Assumes nothing: these are definitions.
-use Rattle.std.specs.Prelude.{ℕ, zero, suc, ◌<◌, ◌≢◌, false, length, get_or, drop}
+use Rattle.std.specs.Prelude.{ℕ, ◌<◌, ◌≢◌, false, Some, None, length, get_or, drop}
 use mathlib.Core.List.{List, [], ◌++◌, map, flat_map}
 use Rattle.std.proofs.Math.Option.{Option, none, some}
 use Rattle.sets.specs.Tabulated.{tabulate}
@@ -10,10 +10,11 @@ use Rattle.exprs.specs.Expr.{Expr, constant, written}
 use Rattle.exprs.specs.Reading.{read_expr}
 use Rattle.lines.specs.Decimal.{decimal}
 use Rattle.lines.specs.Lines.{vars_key, rules_key, init_key, prop_key}
-use Rattle.rule_lines.specs.RuleLines.{name_of}
+use Rattle.rule_lines.specs.declared.names.RuleParts.{RuleParts}
+use Rattle.rule_lines.specs.RuleLines.{StartPlace, no_parts, name_of}
 use Rattle.lines.specs.Written.{Rule, Within, LegalExpr, LegalRule, line, written_rule}
 use Rattle.models.specs.declared.model.Model.{Model}
-use Rattle.models.specs.Reading.{read_model}
+use Rattle.models.specs.Reading.{places_of, read_model}
 
 -- ---- what a model consists of
 
@@ -83,18 +84,21 @@ unfoldable pub property_in : List ℕ → Model → ℕ → Expr
 unfolding expr_at
 property_in text m j = expr_at text (get_or m.props j 0)
 
--- the start part that begins so many bytes behind the place of a step part; none where the number is 0
-unfoldable pub start_at : List ℕ → ℕ → ℕ → Option Expr
+-- the start part that begins so many bytes behind the place of a step part, if there is one
+unfoldable pub start_at : List ℕ → ℕ → StartPlace → Option Expr
 unfolding expr_at
-start_at text step zero = none
-start_at text step (suc bytes) = some (expr_at (drop step text) (suc bytes))
+start_at text step None = none
+start_at text step (Some bytes) = some (expr_at (drop step text) bytes)
+
+-- the rule whose parts stand at these places
+unfoldable pub rule_of : List ℕ → RuleParts → Rule
+unfolding name_of expr_at start_at
+rule_of text p = record { name = name_of text p; step = expr_at text p.step; start = start_at text p.step p.start }
 
 -- the rule i of a text whose parts stand at the places m
 unfoldable pub rule_in : List ℕ → Model → ℕ → Rule
-unfolding name_of expr_at start_at
-rule_in text m i =
-    let step = get_or m.steps i 0 in
-    record { name = name_of text m.names m.steps i; step = expr_at text step; start = start_at text step (get_or m.starts i 0) }
+unfolding rule_of
+rule_in text m i = rule_of text (get_or m.parts i no_parts)
 
 -- the model of a text whose parts stand at the places m
 unfoldable pub described : List ℕ → Model → Described
@@ -108,5 +112,5 @@ described text m = record {
 
 -- the model that a text is read as
 unfoldable pub model_in : List ℕ → Described
-unfolding described read_model
-model_in text = described text (read_model text).model
+unfolding described places_of read_model
+model_in text = described text (places_of (read_model text))

@@ -1,66 +1,53 @@
 // One core by an order of the rules, dearest last: each rule is dropped when what remains still holds.
-ghost use Rattle.std.specs.Prelude.{◌≤◌, ◌<◌, ◌≡◌, length, get_or};
-ghost use Rattle.sets.specs.OneCore.{after_verdict, after_order, one_core_of};
+ghost use Rattle.std.specs.Prelude.{ℕ, ◌+◌, ◌≤◌, ◌<◌, ◌≡◌, length, get_or};
+ghost use Rattle.sets.specs.OneCore.{after_set, after_order, one_core_of};
+ghost use Rattle.sets.specs.Orders.{IsOrder};
 ghost use Rattle.systems.specs.ByTables.{judge_by};
-ghost use Rattle.orders.specs.Dropping.{Droppable, ByOrder};
 
 use sets::one_core::OneCore;
 use sets::ruleset::RuleSet;
-use systems::tables::Tables;
+use systems::systems::Systems;
+use verdicts::verdict::is_held;
 
-// What a verdict on a set makes of what was found: the set is found if it holds. Every verdict of this module goes through here, and counts one.
-fn judged(found: OneCore, set: RuleSet, holds: bool) -> OneCore
+// A set is judged: it is found if it holds, and else what was found before stays. Every verdict of this module is given here, and counts one.
+#[tactic(auto, unfolding(sets::specs::OneCore::after_set, sets::specs::OneCore::after_verdict))]
+fn judged(systems: Systems, found: OneCore, set: RuleSet) -> OneCore
     requires { found.judgements ≤ 16 }
-    ensures { result ≡ after_verdict found set.0 holds }
+    ensures { result ≡ after_set (judge_by systems.entry.masks.now systems.entry.tables.now) found set.0 }
 {
+    let holds = is_held(systems, set.0);
     OneCore {
-        holds: found.holds | holds,
-        set: if holds { set.0 } else { found.set },
+        core: if holds { Some(set.0) } else { found.core },
         judgements: found.judgements + 1,
     }
 }
 
-// The place at number k of an order.
-fn place_at(order: &[u8], k: usize) -> u8
-    requires { k < length order.now }
-    ensures { result ≡ get_or order.now k 0 }
-{
-    order[k]
-}
-
-// Each rule in the order is dropped when the remaining set still holds.
-fn drop_all(masks: &[u16], t: Tables, order: &[u8], first: OneCore) -> OneCore
-    requires { Droppable masks.now t order.now first }
-    ensures { result ≡ after_order (judge_by masks.now t) first order.now }
+// Each rule in the order is dropped from the set that was found when the rest still holds.
+fn drop_all(systems: Systems, order: &[u8], first: OneCore) -> OneCore
+    requires below { (k : ℕ) → k < length order.now → get_or order.now k 0 < 16 }
+    requires few { first.judgements + length order.now ≤ 17 }
+    ensures { result ≡ after_order (judge_by systems.entry.masks.now systems.entry.tables.now) first order.now }
 {
     let mut found = first;
-    let mut untried = order.len();
-    while 0 < untried {
-        let rule = place_at(order, order.len() - untried);
-        let rest = RuleSet(found.set).without(rule as usize);
-        let holds = verdicts::verdict::is_held(masks, t, rest.0);
-        found = judged(found, rest, holds);
-        untried -= 1;
+    for rule in order {
+        if let Some(core) = found.core {
+            found = judged(systems, found, RuleSet(core).without(*rule as usize));
+        }
     }
     found
 }
 
 // The core that is left of the full set; where that is broken, no core.
-pub fn one_core(masks: &[u16], t: Tables, order: &[u8]) -> OneCore
-    requires { ByOrder masks.now t order.now }
-    ensures { result ≡ one_core_of t.rules (judge_by masks.now t) order.now }
+pub fn one_core(systems: Systems, order: &[u8]) -> OneCore
+    requires few { systems.tables.now.rules ≤ 16 }
+    requires ordered { IsOrder systems.tables.now.rules order.now }
+    ensures { result ≡ one_core_of systems.entry.tables.now.rules (judge_by systems.entry.masks.now systems.entry.tables.now) order.now }
 {
-    let all = RuleSet::full(t.rules);
-    let none = OneCore {
-        holds: false,
-        set: RuleSet::empty().0,
+    let all = RuleSet::full(systems.tables.rules);
+    let unjudged = OneCore {
+        core: None,
         judgements: 0,
     };
-    let holds = verdicts::verdict::is_held(masks, t, all.0);
-    let first = judged(none, all, holds);
-    if first.holds {
-        drop_all(masks, t, order, first)
-    } else {
-        first
-    }
+    let first = judged(systems, unjudged, all);
+    drop_all(systems, order, first)
 }

@@ -13,15 +13,13 @@ pub fn is_order(order: &[u8], rules: usize) -> bool
     if order.len() != rules {
         return false;
     }
-    let mut seen = RuleSet::empty();
-    let mut k = 0;
-    while k < rules {
-        let place = order[k] as usize;
+    let mut seen = RuleSet::EMPTY;
+    for byte in order {
+        let place = *byte as usize;
         if rules <= place {
             return false;
         }
         seen = seen.with(place);
-        k += 1;
     }
-    seen.0 == RuleSet::full(rules).0
+    seen == RuleSet::full(rules)
 }

@@ -1,27 +1,33 @@
 -- A page: lent bytes that take a part of a longer text, which is put byte by byte. The bytes before the part are passed over, and those past
 -- the page's end are left out. Assumes nothing: these are definitions.
-use Rattle.std.specs.Prelude.{ℕ, zero, suc, ◌+◌, ◌-◌, Bool, true, cond, List, [], ◌∷◌, ◌++◌, ltb, length, take, drop, set}
-use Rattle.pages.specs.declared.page.Place.{Place}
+use Rattle.std.specs.Prelude.{ℕ, zero, suc, ◌+◌, ◌-◌, Bool, true, false, cond, List, [], ◌∷◌, ◌++◌, ltb, length, take, drop, set}
+use Rattle.std.specs.Borrow.{GName}
+use Rattle.pages.specs.declared.page.Page as code
 use Rattle.pages.specs.declared.page.Printed.{Printed}
 
--- So many bytes are still to be passed over, the next byte goes to place `at`, `more` tells whether a byte was left out, and these are the
--- lent bytes.
+-- So many bytes are still to be passed over, the next byte goes to place `at`, `more` tells whether a byte was left out, these are the lent
+-- bytes, and `loan` is the name of the loan: it stays the same, so that what is put stands in the bytes of the lender in the end.
 pub record Page : Type 0 where
   pub skip : ℕ
   pub at : ℕ
   pub more : Bool
   pub bytes : List ℕ
+  pub loan : GName
 
--- The page that the code holds in two parts: a place and the bytes.
-abbrev pub page_of : Place → List ℕ → Page
-page_of p bytes = record { skip = p.skip; at = p.at; more = p.more; bytes = bytes }
+-- The page that the code holds: a place and the lent bytes.
+abbrev pub page_of : code.Page → Page
+page_of p = record { skip = p.skip; at = p.at; more = p.more; bytes = p.bytes.now; loan = p.bytes.ghost_name }
+
+-- A page of lent bytes on which nothing is put yet, and on which so many bytes are to be passed over.
+abbrev pub empty_page : ℕ → List ℕ → GName → Page
+empty_page skip bytes loan = record { skip = skip; at = 0; more = false; bytes = bytes; loan = loan }
 
 -- One byte is put: it is passed over, stored, or left out.
 unfoldable pub put_byte : ℕ → Page → Page
 put_byte b p =
-    cond (ltb 0 p.skip) (record { skip = p.skip - 1; at = p.at; more = p.more; bytes = p.bytes })
-    (cond (ltb p.at (length p.bytes)) (record { skip = p.skip; at = p.at + 1; more = p.more; bytes = set p.bytes p.at b })
-    (record { skip = p.skip; at = p.at; more = true; bytes = p.bytes }))
+    cond (ltb 0 p.skip) (record p { skip = p.skip - 1 })
+    (cond (ltb p.at (length p.bytes)) (record p { at = p.at + 1; bytes = set p.bytes p.at b })
+    (record p { more = true }))
 
 -- Bytes are put one after the other.
 unfoldable pub put : List ℕ → Page → Page

@@ -4,21 +4,24 @@ ghost use Rattle.lines.specs.Decimal.{decimal};
 ghost use Rattle.pages.specs.Page.{page_of, put};
 ghost use Rattle.pages.specs.Numbers.{number_line};
 
-use crate::page::Place;
+use crate::page::Page;
 
-fn put_decimal(n: usize, p: Place, page: &mut [u8]) -> Place
-    ensures { page_of result page.new ≡ put (decimal n) (page_of p page.old) }
-{
-    let mut digits = [0u8; 20];
-    let k = io::decimal(n as u64, &mut digits);
-    crate::page::put(&digits[..k], p, page)
-}
+impl Page<'_> {
+    fn put_decimal(&mut self, n: usize)
+        ensures { page_of self.new ≡ put (decimal n) (page_of self.old) }
+    {
+        let mut digits = [0u8; 20];
+        let k = io::decimal(n as u64, &mut digits);
+        self.put(&digits[..k]);
+    }
 
-// A line: the key with `=`, the number and byte 10.
-pub fn number_line(key: &[u8], n: usize, p: Place, page: &mut [u8]) -> Place
-    ensures { page_of result page.new ≡ put (number_line key.now n) (page_of p page.old) }
-{
-    let q = crate::page::put(key, p, page);
-    let s = put_decimal(n, q, page);
-    crate::page::put_byte(b'\n', s, page)
+    // A line: the key with `=`, the number and byte 10.
+    #[tactic(auto, using(crate::specs::Laws::Putting::line_made), unfolding(crate::specs::Numbers::number_line))]
+    pub fn number_line(&mut self, key: &[u8], n: usize)
+        ensures { page_of self.new ≡ put (number_line key.now n) (page_of self.old) }
+    {
+        self.put(key);
+        self.put_decimal(n);
+        self.put_byte(b'\n');
+    }
 }

@@ -1,14 +1,15 @@
 // Putting bytes on a page: a lent slice that takes a part of a longer text.
 ghost use Rattle.std.specs.Prelude.{◌≡◌};
-ghost use Rattle.pages.specs.Page.{page_of, put_byte, put};
+ghost use Rattle.pages.specs.Page.{page_of, empty_page, put_byte, put};
 
-// Where the next byte goes: so many are still to be passed over, and then the next is stored at this place. `more` notes that a byte was left
-// out because the page was full.
-#[derive(Clone, Copy)]
-pub struct Place {
-    pub skip: usize,
-    pub at: usize,
-    pub more: bool,
+// The lent bytes, and where the next byte goes: so many are still to be passed over, and then the next is stored at place `at`. `more` notes that
+// a byte was left out because the page was full.
+#[derive(Drop)]
+pub struct Page<'a> {
+    bytes: &'a mut [u8],
+    skip: usize,
+    at: usize,
+    more: bool,
 }
 
 // What is said of a page: it has so many bytes, the next one begins after so many of the report, and whether there is a next one.
@@ -19,42 +20,48 @@ pub struct Printed {
     pub more: bool,
 }
 
-// Puts one byte, which is stored if it is not to be passed over and the page has room.
-pub fn put_byte(b: u8, p: Place, page: &mut [u8]) -> Place
-    ensures { page_of result page.new ≡ put_byte b (page_of p page.old) }
-{
-    let at = p.at;
-    if 0 < p.skip {
-        return Place {
-            skip: p.skip - 1,
-            at,
-            more: p.more,
-        };
+impl<'a> Page<'a> {
+    // A page on which nothing is put yet, and which passes over the first `skip` bytes.
+    pub fn new(bytes: &'a mut [u8], skip: usize) -> Page<'a>
+        ensures { page_of result ≡ empty_page skip bytes.old bytes.entry.ghost_name }
+    {
+        Page {
+            bytes,
+            skip,
+            at: 0,
+            more: false,
+        }
     }
-    if page.len() <= at {
-        return Place {
-            skip: p.skip,
-            at,
-            more: true,
-        };
-    }
-    page[at] = b;
-    Place {
-        skip: p.skip,
-        at: at + 1,
-        more: p.more,
-    }
-}
 
-// Puts bytes one after the other.
-pub fn put(src: &[u8], p: Place, page: &mut [u8]) -> Place
-    ensures { page_of result page.new ≡ put src.now (page_of p page.old) }
-{
-    let mut q = p;
-    let mut i = 0;
-    while i < src.len() {
-        q = put_byte(src[i], q, page);
-        i += 1;
+    // How many bytes are stored, and whether one was left out because the page was full.
+    pub fn stored(&self) -> (usize, bool)
+        ensures bytes { result.0 ≡ (page_of self.now).at }
+        ensures left_out { result.1 ≡ (page_of self.now).more }
+    {
+        (self.at, self.more)
     }
-    q
+
+    // Puts one byte, which is stored if it is not to be passed over and the page has room.
+    #[tactic(auto, unfolding(crate::specs::Page::put_byte))]
+    pub fn put_byte(&mut self, b: u8)
+        ensures { page_of self.new ≡ put_byte b (page_of self.old) }
+    {
+        if 0 < self.skip {
+            self.skip -= 1;
+        } else if self.bytes.len() <= self.at {
+            self.more = true;
+        } else {
+            self.bytes[self.at] = b;
+            self.at += 1;
+        }
+    }
+
+    // Puts bytes one after the other.
+    pub fn put(&mut self, src: &[u8])
+        ensures { page_of self.new ≡ put src.now (page_of self.old) }
+    {
+        for b in src {
+            self.put_byte(*b);
+        }
+    }
 }

@@ -1,5 +1,4 @@
 // The call that finds one core of a model text, in an order of preference.
 #![tactic(auto)]
 
-pub mod answer;
 pub mod one_core;

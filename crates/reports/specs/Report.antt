@@ -3,8 +3,7 @@
 use Rattle.std.specs.Prelude.{ℕ, List, ◌++◌, length, take}
 use Rattle.lines.specs.Bytes.{bytes}
 use Rattle.models.specs.Written.{Described, model_in}
-use Rattle.models.specs.declared.model.Outcome.{Outcome}
-use Rattle.models.specs.declared.model.Outcome.TheVariants.{Accepted, Refused}
+use Rattle.refusals.specs.Answers.{Outcome, Accepted, Refused}
 use Rattle.semantics.specs.Meaning.{judge}
 use Rattle.sorting.specs.declared.which.WhichList.TheVariants.{Cores, Cuts}
 use Rattle.sorting.specs.Which.{listed}

@@ -3,3 +3,4 @@ pub mod Numbers
 pub mod Parts
 pub mod Heard
 pub mod RuleLines
+pub mod ByEnd

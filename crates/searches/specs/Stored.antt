@@ -1,52 +1,64 @@
--- How the arrays of a search hold what it has collected, and the reached states as a struct. Assumes nothing: these are definitions.
-use Rattle.std.specs.Prelude.{ℕ, ◌+◌, ◌*◌, ◌≤◌, ◌<◌, ◌≡◌, true, List, length, get_or, set}
+-- How a search holds what it has collected, and the reached states as a struct. Assumes nothing: these are definitions.
+use Rattle.std.specs.Prelude.{ℕ, ◌+◌, ◌*◌, ◌≤◌, ◌<◌, ◌≡◌, true, false, List, Option, length, get_or, take, set}
 use Rattle.sets.specs.Tabulated.{tabulate}
 use Rattle.searches.specs.declared.runs.Reached.{Reached}
-use Rattle.traces.specs.declared.runs.Runs.{Runs}
+use Rattle.searches.specs.declared.runs.Runs.{Runs}
+use Rattle.traces.specs.declared.runs.Run.{Run}
+use Rattle.systems.specs.Count.{count}
 use Rattle.systems.specs.System.{System}
 use Rattle.traces.specs.Marked.{is_marked}
-use Rattle.traces.specs.Stored.{runs_in, Sound}
+use Rattle.traces.specs.Stored.{no_run, runs_in, Chained}
 use Rattle.searches.specs.Search.{Collection, search}
 
 -- ---- what has been collected
 
+-- The runs that are found: as many as there are marks.
+unfoldable pub found_in : Runs → List Run
+found_in x = take x.reached.count x.runs
+
+-- The state that the run at place i ends in.
+abbrev pub last_at : Runs → ℕ → ℕ
+last_at x i = (get_or x.runs i no_run).last
+
 -- What has been collected.
 unfoldable pub collection_in : Runs → Collection
-unfolding runs_in
-collection_in x = record { runs = runs_in x; pairs = x.pairs }
+unfolding found_in runs_in
+collection_in x = record { runs = runs_in (found_in x); pairs = x.reached.pairs }
 
--- One run more, to state t behind the run at place `parent`.
-unfoldable pub with_run : Runs → ℕ → ℕ → Runs
+-- One run more, to state t behind the run at place `parent`, or behind none.
+unfoldable pub with_run : Runs → Option ℕ → ℕ → Runs
 with_run x parent t =
-    let n = x.count in
+    let r = x.reached in
     record {
-      marks = set x.marks t true;
-      count = n + 1;
-      order = set x.order n t;
-      parents = set x.parents n parent;
-      pairs = x.pairs;
+      reached = record { marks = set r.marks t true; count = r.count + 1; pairs = r.pairs };
+      runs = set x.runs r.count (record { last = t; parent = parent });
     }
+
+-- The marks are those of the runs that are found, and the count is how many there are.
+pub record Sound (x : Runs) : Type 0 where
+  pub marks : length x.reached.marks ≡ 128
+  pub runs : length x.runs ≡ 128
+  pub chained : Chained (found_in x)
+  pub marked : (s : ℕ) → get_or x.reached.marks s false ≡ is_marked (runs_in (found_in x)) s
+  pub counted : x.reached.count ≡ count 128 (λ s. get_or x.reached.marks s false)
 
 -- x holds the collection c.
 pub record Stores (c : Collection) (x : Runs) : Type 0 where
-  pub runs : runs_in x ≡ c.runs
-  pub pairs : x.pairs ≡ c.pairs
+  pub runs : runs_in (found_in x) ≡ c.runs
+  pub pairs : x.reached.pairs ≡ c.pairs
   pub sound : Sound x
 
--- There is room for a run more, to state t behind the run at place `parent`, or behind none.
-pub record Markable (x : Runs) (parent t : ℕ) : Type 0 where
-  pub room : x.count < 128
+-- There is room for a run more, to state t.
+pub record Markable (x : Runs) (t : ℕ) : Type 0 where
+  pub room : x.reached.count < 128
   pub state : t < 128
-  pub place : parent < 256
 
 -- The run at place i is stored and ends in a state whose row is a part of the masks. No more pairs have been tried than there are.
-pub record Triable (masks : List ℕ) (states i : ℕ) (x : Runs) : Type 0 where
-  pub few : states ≤ 128
-  pub room : 128 * states ≤ length masks
+pub record Triable (states i : ℕ) (x : Runs) : Type 0 where
   pub sound : Sound x
-  pub found : i < x.count
-  pub state : get_or x.order i 0 < states
-  pub tried : x.pairs ≤ 128 * 128
+  pub found : i < x.reached.count
+  pub state : last_at x i < states
+  pub tried : x.reached.pairs ≤ 128 * 128
 
 -- ---- the reached states
 

@@ -2,86 +2,81 @@
 // none once every state is reached.
 ghost use Rattle.std.specs.Prelude.{◌≡◌, [], get_or};
 ghost use Rattle.searches.specs.Search.{starts_below, try_row, search};
-ghost use Rattle.systems.specs.ByTables.{step_by, start_by, HasRoom, system_by};
+ghost use Rattle.systems.specs.ByTables.{step_by, start_by, system_by};
 ghost use Rattle.traces.specs.Stored.{runs_in};
-ghost use Rattle.searches.specs.Stored.{collection_in, Stores, Triable, reached_of};
+ghost use Rattle.searches.specs.Stored.{found_in, last_at, collection_in, Stores, Triable, reached_of};
 
-use crate::runs::Reached;
-use systems::tables::Tables;
-use traces::runs::Runs;
+use crate::runs::{Reached, Runs};
+use systems::systems::Systems;
+use traces::runs::Run;
 
 // The start states of the set are marked, by number. The start parts that they meet stand in the row behind those of the states.
-fn find_starts(masks: &[u16], t: Tables, set: u16) -> Runs
-    requires { HasRoom masks.now t }
-    ensures { Stores (record { runs = starts_below (start_by masks.now t set) t.states; pairs = 0 }) result }
+fn find_starts(systems: Systems, set: u16) -> Runs
+    ensures { Stores (record { runs = starts_below (start_by systems.entry.masks.now systems.entry.tables.now set) systems.entry.tables.now.states; pairs = 0 }) result }
 {
     let mut x = Runs {
-        marks: [false; 128],
-        count: 0,
-        order: [0; 128],
-        parents: [0; 128],
-        pairs: 0,
+        reached: Reached {
+            marks: [false; 128],
+            count: 0,
+            pairs: 0,
+        },
+        runs: [Run {
+            last: 0,
+            parent: None,
+        }; 128],
     };
-    let row = 128 * t.states;
-    let mut s = 0;
-    while s < t.states {
-        if t.init[s] & ((masks[row + s] & set) == set) {
-            x = crate::runs::mark(x, 128, s);
+    let row = 128 * systems.tables.states;
+    for t in 0..systems.tables.states {
+        if systems.tables.init[t] & ((systems.masks[row + t] & set) == set) {
+            x.mark(None, t);
         }
-        s += 1;
     }
     x
 }
 
 // The last state of the run at place i is tried as the first of a pair with every state, by number, until every state is reached. The masks have rows
 // of pairs for the states alone, so it has to be one of them.
-fn try_row(masks: &[u16], states: usize, set: u16, i: usize, x: Runs) -> Runs
-    requires { Triable masks.now states i x }
-    ensures { Stores (try_row states (step_by masks.now set (get_or x.order i 0)) (get_or (runs_in x) i []) states (collection_in x)) result }
+#[tactic(auto, using(crate::proofs::Stored::sound_few))]
+fn try_row(systems: Systems, set: u16, i: usize, x: &mut Runs)
+    requires { Triable systems.tables.now.states i x.old }
+    ensures { Stores (try_row systems.entry.tables.now.states (step_by systems.entry.masks.now set (last_at x.old i))
+        (get_or (runs_in (found_in x.old)) i []) systems.entry.tables.now.states (collection_in x.old)) x.new }
 {
-    let s = x.order[i] as usize;
-    let mut y = x;
-    let mut t = 0;
-    while t < states {
-        if y.count == states {
-            return y;
+    let states = systems.tables.states;
+    let from = x.runs[i].last as usize;
+    for t in 0..states {
+        if x.reached.count == states {
+            return;
         }
-        y.pairs += 1;
-        if ((masks[128 * s + t] & set) == set) & !y.marks[t] {
-            y = crate::runs::mark(y, i, t);
+        x.reached.pairs += 1;
+        if ((systems.masks[128 * from + t] & set) == set) & !x.reached.marks[t] {
+            x.mark(Some(i as u8), t);
         }
-        t += 1;
     }
-    y
 }
 
 // Every run is tried once, in the order of marking, until every state is reached.
-pub(crate) fn explore(masks: &[u16], t: Tables, set: u16) -> Runs
-    requires { HasRoom masks.now t }
-    ensures { Stores (search (system_by masks.now t set)) result }
+#[tactic(auto, using(crate::proofs::Stored::sound_few))]
+pub(crate) fn explore(systems: Systems, set: u16) -> Runs
+    ensures { Stores (search (system_by systems.entry.masks.now systems.entry.tables.now set)) result }
 {
-    let mut x = find_starts(masks, t, set);
+    let mut x = find_starts(systems, set);
     let mut i = 0;
-    while i < x.count {
-        if x.count == t.states {
+    // No `for`, since the runs that are tried here grow in number.
+    while i < x.reached.count {
+        if x.reached.count == systems.tables.states {
             return x;
         }
-        x = try_row(masks, t.states, set, i, x);
+        try_row(systems, set, i, &mut x);
         i += 1;
     }
     x
 }
 
 // The reached states, and how many pairs of states were tried.
-pub fn reached(masks: &[u16], t: Tables, set: u16) -> Reached
-    requires { HasRoom masks.now t }
-    ensures { result ≡ reached_of (system_by masks.now t set) }
+#[tactic(auto, using(crate::proofs::Stored::stored_reached))]
+pub fn reached(systems: Systems, set: u16) -> Reached
+    ensures { result ≡ reached_of (system_by systems.entry.masks.now systems.entry.tables.now set) }
 {
-    let x = explore(masks, t, set);
-    let marks = x.marks;
-    Reached {
-        marks,
-        count: x.count,
-        pairs: x.pairs,
-    }
+    explore(systems, set).reached
 }

@@ -4,6 +4,8 @@ use Prim.Native.Nat.{ℕ, ◌*◌, ◌^◌, ◌≤◌, ◌<◌}
 use mathlib.Core.Path.{◌≡◌, ap, ap₂, ◌∙◌}
 use mathlib.Core.List.{List, ◌++◌}
 use native.Mathlib.Omega.{arith}
+use Rattle.std.specs.List.{All}
+use Rattle.std.proofs.lemmas.List.Elements.{All-from_get_or, All-weaker}
 use lib.ListN.{length, get_or, take, drop, length-take}
 use lib.Pow.{pow_mono}
 use lib.Seq.{take_at}
@@ -21,32 +23,31 @@ use Rattle.sorting.specs.declared.kinds.Kind.{Kind}
 use Rattle.sorting.specs.declared.kinds.Kind.TheVariants.{Must, May, Irrelevant}
 use Rattle.sorting.specs.declared.kinds.Kinds.{Kinds}
 use Rattle.sorting.specs.Kinds.{kinds_of}
-use Rattle.calls.specs.declared.answers.ListAnswer.{ListAnswer}
+use Rattle.refusals.specs.Answers.{Answer}
 use Rattle.calls.specs.Answers.{rules_in, judge_in, list_in, kind_in, list_answer, list_bytes}
 use Rattle.calls.specs.AsRead.{IsRead}
 use Rattle.calls.proofs.Laws.Answers.{rules_le, rules_read_lem, read_model_lem, list_enough}
 use Rattle.calls.proofs.Laws.Sizes.{list_le, kind_lt}
 use Rattle.sections.specs.Sections.{set_line, kind_lines}
-use Rattle.sections.specs.Decoded.{decoded, sets_written, AllBelow}
-use Rattle.sections.specs.Known.{SetRead, ListRead}
+use Rattle.sections.specs.Decoded.{decoded, sets_written}
 use Rattle.sections.specs.Laws.Decoded.{decoded_bytes}
 
 -- ---- the kinds of rules
 
--- the rules of each kind are the text's own
-pub record KindsRead (text : List ℕ) (m : Model) (k : Kinds) : Type 0 where
-  pub must : SetRead text m k.must
-  pub may : SetRead text m k.may
-  pub irrelevant : SetRead text m k.irrelevant
+-- the rules of each kind are the model's own
+pub record KindsRead (m : Model) (k : Kinds) : Type 0 where
+  pub must : k.must < 2 ^ m.rules
+  pub may : k.may < 2 ^ m.rules
+  pub irrelevant : k.irrelevant < 2 ^ m.rules
 
 module _ (text : List ℕ) (m : Model) (r : IsRead text m) (k : Kinds) (said : k ≡ kinds_of m.rules (judge (described text m))) where
   gave : k ≡ kinds_of (rules_in text) (judge_in text)
   unfolding judge_in
   gave = said ∙ ap₂ (λ (R : ℕ) D. kinds_of R (judge D)) (rules_read_lem r) (read_model_lem r)
 
-  own : (kind : Kind) {S : ℕ} → S ≡ of_kind kind (rules_in text) (judge_in text) → SetRead text m S
+  own : (kind : Kind) {S : ℕ} → S ≡ of_kind kind (rules_in text) (judge_in text) → S < 2 ^ m.rules
   unfolding kind_in
-  own kind e = record { read = r; below = rw (e, rules_read_lem r) (kind_lt kind text) }
+  own kind e = rw (e, rules_read_lem r) (kind_lt kind text)
 
   must_is : k.must ≡ of_kind Must (rules_in text) (judge_in text)
   unfolding kinds_of of_kind
@@ -60,7 +61,7 @@ module _ (text : List ℕ) (m : Model) (r : IsRead text m) (k : Kinds) (said : k
   unfolding kinds_of of_kind
   irrelevant_is = ap (λ x. x.irrelevant) gave
 
-  pub kinds_read : KindsRead text m k
+  pub kinds_read : KindsRead m k
   kinds_read = record { must = own Must must_is; may = own May may_is; irrelevant = own Irrelevant irrelevant_is }
 
   pub kinds_are : set_line (model_in text) (bytes "must=") k.must ++ (set_line (model_in text) (bytes "may=") k.may ++ set_line (model_in text) (bytes "irr=") k.irrelevant)
@@ -76,12 +77,12 @@ list_below Cores text i l = ((mem_list_of (rules_in text) _ _).0 (at_place (list
 list_below Cuts text i l = ((mem_list_of (rules_in text) _ _).0 (at_place (list_in Cuts text) i l)).0
 
 -- The first so many bytes hold the list, and each of its sets is one of the text's rules.
-pub record Holding (text : List ℕ) (m : Model) (sets : List ℕ) (end : ℕ) (after : List ℕ) : Type 0 where
+pub record Holding (m : Model) (sets : List ℕ) (end : ℕ) (after : List ℕ) : Type 0 where
   pub fits : end ≤ length after
   pub same : decoded (take end after) ≡ sets
-  pub list : ListRead text m (take end after)
+  pub below : All (λ S. S < 2 ^ m.rules) (decoded (take end after))
 
-module _ (text : List ℕ) (m : Model) (r : IsRead text m) (which : WhichList) (lent : List ℕ) (room : length lent ≡ 131072) (a : ListAnswer) (after : List ℕ) (said : (a ≡ list_answer which text lent) × (after ≡ list_bytes which text lent)) where
+module _ (text : List ℕ) (m : Model) (r : IsRead text m) (which : WhichList) (lent : List ℕ) (room : length lent ≡ 131072) (a : Answer ℕ) (after : List ℕ) (said : (a ≡ list_answer which text lent) × (after ≡ list_bytes which text lent)) where
   enough : 2 * length (list_in which text) ≤ length lent
   enough = omega (arith, room, list_le which text)
 
@@ -92,13 +93,13 @@ module _ (text : List ℕ) (m : Model) (r : IsRead text m) (which : WhichList) (
   pub count_few : sets_written a ≤ 65536
   count_few = omega (arith, count, list_le which text)
 
-  pub list_held : (end : ℕ) → end ≡ 2 * sets_written a → Holding text m (list_in which text) end after
+  pub list_held : (end : ℕ) → end ≡ 2 * sets_written a → Holding m (list_in which text) end after
   unfolding overwritten
   list_held end e =
       record {
         fits = omega (arith, ap length front, length-take end after, length_bytes_of (list_in which text), count);
         same = ap decoded front ∙ same_sets;
-        list = record { read = r; below = rw (front, same_sets) few };
+        below = rw (front, same_sets) few;
       }
     where
       front : take end after ≡ bytes_of (list_in which text)
@@ -107,8 +108,8 @@ module _ (text : List ℕ) (m : Model) (r : IsRead text m) (which : WhichList) (
           ∙ take_at (bytes_of (list_in which text)) (drop (length (bytes_of (list_in which text))) lent) end
           (omega (arith, length_bytes_of (list_in which text), count))
 
-      few : AllBelow (2 ^ m.rules) (list_in which text)
-      few = record { each = λ i l. rw (rules_read_lem r) (list_below which text i l) }
+      few : All (λ S. S < 2 ^ m.rules) (list_in which text)
+      few = All-from_get_or (λ S. S < 2 ^ m.rules) _ 0 (λ i l. rw (rules_read_lem r) (list_below which text i l))
 
       same_sets : decoded (bytes_of (list_in which text)) ≡ list_in which text
-      same_sets = decoded_bytes (list_in which text) (record { each = λ i l. omega (arith, few.each i l, pow_mono (rules_le r)) })
+      same_sets = decoded_bytes (list_in which text) (All-weaker (λ S. S < 2 ^ m.rules) (λ S. S < 65536) (λ S l. omega (arith, pow_mono (rules_le r))) (list_in which text) few)

@@ -1,117 +1,118 @@
--- The loop that puts the names of a set's rules: what is known when the rules of `rest` are left. From the first rule of a set, which is the
--- head of its list of rules. Assumes nothing.
-use Prim.Native.Nat.{ℕ, ◌<◌}
-use mathlib.Core.Path.{◌≡◌, refl, sym, ap, ◌∙◌}
-use mathlib.Core.Logic.{◌≢◌}
-use mathlib.Core.List.Memᴰ
-use mathlib.Core.List.{List, ◌∷◌, ◌++◌, map, flat_map}
-use native.Mathlib.Omega.{arith}
-use lib.Count.{count_trailing_zeros}
-use lib.ListN.{length}
+-- Putting the names of a set's rules: that of the first, and then each other behind a comma; what is known when some of the rules are left.
+-- From what an iterator over a set has left, and from the names that a text's model tells. Assumes nothing.
+use Rattle.std.specs.Prelude.{ℕ, zero, suc, ◌+◌, ◌-◌, ◌^◌, ◌<◌, ◌≡◌, refl, false, List, [], ◌∷◌, map, get_or}
+use Rattle.std.specs.List.{All}
+use Rattle.std.proofs.Common.{sym, ap, ◌∙◌, arith, add-suc, add-zero, append-nil}
+use Rattle.std.proofs.lemmas.List.Elements.{All-head, All-rest, All-same, All-from_get_or}
+use mathlib.Core.List.{flat_map, ◌++◌}
 use Rattle.sets.specs.Bit.{has}
-use Rattle.sets.specs.Sets.{without}
 use Rattle.sets.specs.Lists.{select}
-use Rattle.sets.specs.Laws.Sets.{without_le}
-use Rattle.sets.specs.Laws.Listed.{mem_select}
-use Rattle.sets.specs.Laws.First.{select_first, select_none}
+use Rattle.sets.specs.Laws.Bit.{has_below}
+use Rattle.sets.specs.Laws.Cores.{false_if}
+use Rattle.sets.specs.Laws.Listed.{at_place, mem_select}
 use Rattle.lines.specs.Bytes.{bytes}
-use Rattle.rule_lines.specs.RuleLines.{name_of}
+use Rattle.rule_lines.specs.RuleLines.{no_parts, name_of}
 use Rattle.models.specs.declared.model.Model.{Model}
-use Rattle.models.specs.Written.{Described, model_in, rule_in, rule_at}
+use Rattle.models.specs.Written.{Described, model_in, rule_of, rule_in, rule_at}
 use Rattle.models.proofs.Laws.Written.{described_rule}
 use Rattle.calls.specs.Answers.{rules_in}
+use Rattle.calls.specs.AsRead.{IsRead}
 use Rattle.calls.proofs.Laws.Answers.{read_model_lem, rules_le, rules_read_lem}
 use Rattle.pages.specs.Page.{Page, put_byte, put}
+use Rattle.pages.specs.Laws.Page.{put_append}
+use Rattle.pages.specs.Laws.Putting.{put_as, both_put}
+use Rattle.sections.specs.declared.rules.Rules.{Rules}
+use Rattle.sections.specs.Rules.{rules_left}
 use Rattle.sections.specs.Sections.{separated, name_in, set_text}
-use Rattle.sections.specs.Known.{RuleRead, SetRead}
 use Rattle.sections.specs.Laws.Sections.{set_text_lem}
-use Rattle.pages.specs.Laws.Page.{put_append, length_byte, length_put}
 
 -- The name of a rule of the text's model is found at its place.
-pub name_is : (text : List ℕ) (m : Model) (i : ℕ) → RuleRead text m i → name_of text m.names m.steps i ≡ name_in (model_in text) i
-unfolding name_in rule_in
-name_is text m i k =
-    sym (ap (λ r. r.name) (described_rule text m i k.below))
-    ∙ ap (λ (D : Described). (rule_at D.rules i).name) (read_model_lem k.read)
+pub name_is : (text : List ℕ) (m : Model) → IsRead text m → (i : ℕ) → i < m.rules → name_of text (get_or m.parts i no_parts) ≡ name_in (model_in text) i
+unfolding name_in rule_in rule_of
+name_is text m r i below =
+    sym (ap (λ r. r.name) (described_rule text m i below))
+    ∙ ap (λ (D : Described). (rule_at D.rules i).name) (read_model_lem r)
 
--- the names of the rules of a set, each after a comma
-unfoldable pub others : Described → ℕ → List ℕ
+-- ---- the rules of a set of the text's model
+
+-- A set of R rules has none from R on.
+none_past : (R k S : ℕ) → S < 2 ^ R → select (has S) (R + k) ≡ select (has S) R
+unfolding select
+none_past R zero S h = rw (add-zero R) refl
+none_past R (suc k) S h =
+    let absent : has S (R + k) ≡ false = false_if (has S (R + k)) (λ e. omega (arith, has_below R S (R + k) h e)) in
+    rw (add-suc R k, absent) (append-nil (select (has S) (R + k)) ∙ none_past R k S h)
+
+module _ (text : List ℕ) (m : Model) (r : IsRead text m) (s : Rules) (below : s.0.0 < 2 ^ m.rules) where
+  rules_are : rules_left s ≡ select (has s.0.0) m.rules
+  unfolding rules_left
+  rules_are =
+      let places : m.rules + (16 - m.rules) ≡ 16 = omega (arith, rules_le r) in
+      ap (select (has s.0.0)) (sym places) ∙ none_past m.rules (16 - m.rules) s.0.0 below
+
+  -- Each is a rule of the model.
+  pub all_rules : All (λ i. i < m.rules) (rules_left s)
+  all_rules =
+      All-same (λ i. i < m.rules) _ _ rules_are
+      (All-from_get_or (λ i. i < m.rules) _ 0 (λ i l. ((mem_select (has s.0.0) m.rules _).0 (at_place (select (has s.0.0) m.rules) i l)).0))
+
+  -- The set is told by their names.
+  pub told_by_names : set_text (model_in text) s.0.0 ≡ separated (map (name_in (model_in text)) (rules_left s))
+  unfolding rules_in
+  told_by_names =
+      set_text_lem (model_in text) s.0.0
+      ∙ ap (λ (R : ℕ). separated (map (name_in (model_in text)) (select (has s.0.0) R))) (sym (rules_read_lem r))
+      ∙ ap (λ l. separated (map (name_in (model_in text)) l)) (sym rules_are)
+
+-- ---- the names, put
+
+-- the names of rules, each behind a comma
+unfoldable pub others : Described → List ℕ → List ℕ
 unfolding flat_map
-others M S = flat_map (λ n. bytes "," ++ n) (map (name_in M) (select (has S) (length M.rules)))
+others M rules = flat_map (λ n. bytes "," ++ n) (map (name_in M) rules)
 
--- Of the rules of T, those of `rest` are left: once they are put as well, the page p is what it becomes in the end.
-pub record Naming (text : List ℕ) (m : Model) (T : ℕ) (p₀ p : Page) (rest : ℕ) : Type 0 where
-  pub known : SetRead text m rest
-  pub left : put (others (model_in text) rest) p ≡ put (others (model_in text) T) p₀
-  pub size : length p.bytes ≡ length p₀.bytes
+-- Each of the rules that are left is below R, and once their names are put as well, the page p is what it becomes in the end.
+pub record Naming (M : Described) (R : ℕ) (rules : List ℕ) (p₀ p : Page) (left : List ℕ) : Type 0 where
+  pub known : All (λ i. i < R) left
+  pub rest : put (others M left) p ≡ put (others M rules) p₀
 
-pub started : (text : List ℕ) (m : Model) (T : ℕ) (p : Page) → SetRead text m T → Naming text m T p p T
-started text m T p k = record { known = k; left = refl; size = refl }
+module _ (M : Described) (R : ℕ) (rules : List ℕ) (p₀ p : Page) (left : List ℕ) (w : Naming M R rules p₀ p left) where
+  pub next_named : (rule : ℕ) (after : List ℕ) → left ≡ rule ∷ after
+      → (q s : Page) → q ≡ put_byte 44 p → s ≡ put (name_in M rule) q → Naming M R rules p₀ s after
+  unfolding others put flat_map
+  next_named rule after e q s comma named =
+      record {
+        known = All-rest (λ i. i < R) rule after left e w.known;
+        rest =
+            ap (put (others M after)) (named ∙ ap (put (name_in M rule)) comma)
+            ∙ sym (put_append (name_in M rule) (others M after) (put_byte 44 p))
+            ∙ ap (λ l. put (others M l) p) (sym e)
+            ∙ w.rest;
+      }
 
-pub all_named : (text : List ℕ) (m : Model) (T : ℕ) (p₀ p : Page) (rest : ℕ) → Naming text m T p₀ p rest → rest ≡ 0 → p ≡ put (others (model_in text) T) p₀
-unfolding others put flat_map
-all_named text m T p₀ p rest w e =
-    ap (λ l. put (flat_map (λ n. bytes "," ++ n) (map (name_in (model_in text)) l)) p)
-    (sym (ap (λ S. select (has S) (length (model_in text).rules)) e ∙ select_none (length (model_in text).rules)))
-    ∙ w.left
+  pub all_named : left ≡ [] → p ≡ put (others M rules) p₀
+  unfolding others put flat_map
+  all_named e = ap (λ l. put (others M l) p) (sym e) ∙ w.rest
 
--- Set 0 has no name.
-none_named : (M : Described) (S : ℕ) → S ≡ 0 → set_text M S ≡ bytes "-"
-unfolding separated
-none_named M S e = set_text_lem M S ∙ ap (λ l. separated (map (name_in M) l)) (ap (λ T. select (has T) (length M.rules)) e ∙ select_none (length M.rules))
+-- ---- a set of the text's model, put
 
-pub empty_named : (text : List ℕ) (S : ℕ) (p : Page) → S ≡ 0 → put_byte 45 p ≡ put (set_text (model_in text) S) p
-unfolding put
-empty_named text S p e = sym (ap (λ l. put l p) (none_named (model_in text) S e))
+module _ (text : List ℕ) (m : Model) (r : IsRead text m) (s : Rules) (below : s.0.0 < 2 ^ m.rules) where
+  pub no_rule_put : rules_left s ≡ [] → (p q : Page) → q ≡ put_byte 45 p → q ≡ put (set_text (model_in text) s.0.0) p
+  unfolding separated put
+  no_rule_put none p q e =
+      e ∙ ap (λ l. put l p) (sym (told_by_names text m r s below ∙ ap (λ l. separated (map (name_in (model_in text)) l)) none))
 
--- ---- the first rule t of a set S, and the set U of the others
+  -- its first rule, and those that are left then
+  module _ (first : ℕ) (left : List ℕ) (some : rules_left s ≡ first ∷ left) where
+    pub first_rule : first < m.rules
+    first_rule = All-head (λ i. i < m.rules) first left (rw some at (all_rules text m r s below))
 
-module _ (text : List ℕ) (m : Model) (S : ℕ) (k : SetRead text m S) (some : S ≢ 0) where
-  R : ℕ
-  R = length (model_in text).rules
+    pub started : (p : Page) → Naming (model_in text) m.rules left p p left
+    started p = record { known = All-rest (λ i. i < m.rules) first left _ some (all_rules text m r s below); rest = refl }
 
-  -- as many rules as the model that was read has
-  rules_are_read : m.rules ≡ R
-  unfolding R rules_in
-  rules_are_read = rules_read_lem k.read
-
-  first_of : select (has S) R ≡ count_trailing_zeros 16 S ∷ select (has (without S (count_trailing_zeros 16 S))) R
-  first_of =
-      rw (← rules_are_read)
-      (select_first m.rules S (rules_le k.read) some k.below)
-
-  -- a first rule is a rule
-  pub first_rule : (t : ℕ) → t ≡ count_trailing_zeros 16 S → RuleRead text m t
-  first_rule t e =
-      record { read = k.read; below = rw (e, rules_are_read) ((mem_select (has S) R (count_trailing_zeros 16 S)).0 (rw first_of (Memᴰ.head refl))).0 }
-
-  module _ (t U : ℕ) (first : t ≡ count_trailing_zeros 16 S) (less : U ≡ without S t) where
-    rules_are : select (has S) R ≡ t ∷ select (has U) R
-    rules_are =
-        let e : U ≡ without S (count_trailing_zeros 16 S) = less ∙ ap (without S) first in
-        rw (first, e) first_of
-
-    pub fewer : length (select (has U) m.rules) < length (select (has S) m.rules)
-    fewer = rw rules_are_read (omega (arith, ap length rules_are))
-
-    pub still_known : SetRead text m U
-    still_known = record { read = k.read; below = omega (arith, without_le S t, less, k.below) }
-
-    pub names_are : name_in (model_in text) t ++ others (model_in text) U ≡ set_text (model_in text) S
-    unfolding separated others flat_map R
-    names_are = ap (λ l. separated (map (name_in (model_in text)) l)) (sym rules_are) ∙ sym (set_text_lem (model_in text) S)
-
-    pub next_named : (T : ℕ) (p₀ p q s : Page) → Naming text m T p₀ p S → q ≡ put_byte 44 p → s ≡ put (name_in (model_in text) t) q → Naming text m T p₀ s U
-    unfolding others put flat_map R
-    next_named T p₀ p q s w e f =
-        record {
-          known = still_known;
-          left =
-              ap (put (others (model_in text) U)) (f ∙ ap (put (name_in (model_in text) t)) e)
-              ∙ sym (put_append (name_in (model_in text) t) (others (model_in text) U) (put_byte 44 p))
-              ∙ ap (λ l. put (flat_map (λ n. bytes "," ++ n) (map (name_in (model_in text)) l)) p) (sym rules_are)
-              ∙ w.left;
-          size =
-              ap (λ (q : Page). length q.bytes) f ∙ length_put (name_in (model_in text) t) q ∙ ap (λ (q : Page). length q.bytes) e ∙ length_byte 44 p
-              ∙ w.size;
-        }
+    pub rules_put : (p q t : Page) → q ≡ put (name_in (model_in text) first) p → t ≡ put (others (model_in text) left) q
+        → t ≡ put (set_text (model_in text) s.0.0) p
+    unfolding separated others flat_map
+    rules_put p q t e f =
+        put_as _ _ p t (both_put _ _ p q t e f)
+        (sym (told_by_names text m r s below ∙ ap (λ l. separated (map (name_in (model_in text)) l)) some))

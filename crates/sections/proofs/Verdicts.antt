@@ -1,6 +1,6 @@
 -- The verdict on the full set of a model from its trace, and the verdicts by each property, put one after the other.
 -- From the laws of traces, of a text that was read and of a loop that puts. Assumes nothing.
-use Prim.Native.Nat.{ℕ, ◌+◌, ◌-◌, ◌≤◌, ◌<◌}
+use Prim.Native.Nat.{ℕ, ◌+◌, ◌≤◌, ◌<◌}
 use mathlib.Core.Path.{◌≡◌, sym, ap, ap₂, ◌∙◌}
 use mathlib.Core.Logic.{◌≢◌}
 use mathlib.Core.Bool.{true, false}
@@ -15,7 +15,6 @@ use Rattle.lines.specs.Bytes.{bytes}
 use Rattle.lines.specs.Written.{line}
 use Rattle.models.specs.declared.model.Model.{Model}
 use Rattle.models.specs.Written.{Described, described, model_in}
-use Rattle.models.proofs.Accepted.{told}
 use Rattle.models.specs.Changed.{by_property}
 use Rattle.models.specs.Places.{places_by_property}
 use Rattle.models.proofs.Laws.Written.{described_properties}
@@ -27,7 +26,7 @@ use Rattle.traces.specs.Traced.{trace_array}
 use Rattle.traces.specs.Laws.Traced.{trace_holds, trace_states}
 use Rattle.semantics.specs.Meaning.{system_of}
 use Rattle.semantics.specs.TablesOf.{Few}
-use Rattle.calls.specs.Answers.{rules_in, text_outcome}
+use Rattle.calls.specs.Answers.{rules_in}
 use Rattle.calls.specs.AsRead.{IsRead}
 use Rattle.calls.proofs.Laws.Answers.{few, read_model_lem, rules_read_lem}
 use Rattle.pages.specs.Page.{Page, put}
@@ -82,13 +81,8 @@ module _ (text : List ℕ) (m : Model) (r : IsRead text m) where
   property_count_lem : length (model_in text).props ≡ m.properties
   property_count_lem = ap (λ (M : Described). length M.props) (sym (read_model_lem r)) ∙ described_properties text m
 
-  -- There is a property.
-  pub some_property : 1 ≤ m.properties
-  unfolding text_outcome
-  some_property = omega (arith, property_count_lem, (told text r.outcome).legal.properties.at_least)
-
   -- There is an entry for the place of each.
-  pub place_fits : (j : ℕ) → j ≤ m.properties - 1 → j < 4
+  pub place_fits : (j : ℕ) → j < m.properties → j < 4
   place_fits j h = omega (arith, (few r).properties)
 
   -- The model with one property alone is no larger.
@@ -108,14 +102,13 @@ module _ (text : List ℕ) (m : Model) (r : IsRead text m) where
     count : length (tabulate (length (model_in text).props) (λ j. j)) ≡ m.properties
     count = length_tabulate (length (model_in text).props) (λ j. j) ∙ property_count_lem
 
-    pub next_put : j ≤ m.properties - 1 → (alone : Model) → alone ≡ places_by_property j m
+    pub next_put : j < m.properties → (alone : Model) → alone ≡ places_by_property j m
         → (q : Page) → q ≡ put (verdict_lines (system_of (described text alone) (full alone.rules))) p → Verdicts (model_in text) p₀ q (j + 1)
     next_put h alone e q put_is =
-        let below : j < m.properties = omega (arith, some_property) in
-        let same = get_d_tabulate (length (model_in text).props) (λ j. j) 0 j (omega (arith, property_count_lem, below)) in
-        next _ _ p₀ p j w (omega (arith, count, below)) q
-        (put_as _ _ p q put_is (verdict_alone j below alone e ∙ ap (verdict_by (model_in text)) (sym same)))
+        let same = get_d_tabulate (length (model_in text).props) (λ j. j) 0 j (omega (arith, property_count_lem)) in
+        next _ _ p₀ p j w (omega (arith, count)) q
+        (put_as _ _ p q put_is (verdict_alone j h alone e ∙ ap (verdict_by (model_in text)) (sym same)))
 
-    pub all_put : m.properties - 1 < j → p ≡ put (verdicts_of (model_in text)) p₀
+    pub all_put : m.properties ≤ j → p ≡ put (verdicts_of (model_in text)) p₀
     unfolding verdicts_of
     all_put h = ended _ _ p₀ p j w (omega (arith, count))

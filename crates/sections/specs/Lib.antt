@@ -1,6 +1,6 @@
--- The sections of a report: their bytes (`Sections`), the sets that lent bytes hold (`Decoded`), and what is known where a section is put (`Known`).
+-- The sections of a report: their bytes (`Sections`), the sets that lent bytes hold (`Decoded`), and the rules that an iterator over a set has left (`Rules`).
 -- What is proved of these stands in `Laws`.
 pub mod Decoded
 pub mod Sections
-pub mod Known
+pub mod Rules
 pub mod Laws

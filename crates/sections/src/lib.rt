@@ -4,5 +4,7 @@
 pub mod kinds;
 pub mod lists;
 mod names;
+pub mod read_text;
 mod rows;
+mod rules;
 pub mod verdict;

@@ -1,57 +1,47 @@
 // Sets as the names of their rules.
-ghost use Rattle.std.specs.Prelude.{◌≡◌};
+ghost use Rattle.std.specs.Prelude.{◌≡◌, ◌<◌, ◌^◌};
 ghost use Rattle.models.specs.Written.{model_in};
 ghost use Rattle.pages.specs.Page.{page_of, put};
 ghost use Rattle.sections.specs.Sections.{name_in, set_text, set_line};
-ghost use Rattle.sections.specs.Known.{RuleRead, SetRead};
 
-use models::model::Model;
-use pages::page::Place;
+use crate::read_text::ReadText;
+use crate::rules::Rules;
+use pages::page::Page;
 use sets::ruleset::RuleSet;
 
 // The name of a rule.
-fn put_name(text: &[u8], m: Model, i: usize, p: Place, page: &mut [u8]) -> Place
-    requires { RuleRead text.now m i }
-    ensures { page_of result page.new ≡ put (name_in (model_in text.now) i) (page_of p page.old) }
+fn put_name(read: ReadText<'_>, rule: usize, page: &mut Page<'_>)
+    requires { rule < read.model.rules }
+    ensures { page_of page.new ≡ put (name_in (model_in read.entry.text.now) rule) (page_of page.old) }
 {
-    let names = m.names;
-    let steps = m.steps;
-    pages::page::put(rule_lines::names::name_of(text, names, steps, i), p, page)
+    let m = read.model;
+    page.put(rule_lines::names::name_of(read.text, m.parts[rule]));
 }
 
-// The names of a set's rules, in the model's order and with commas: the next rule is always the first of those that are left.
-fn put_names(text: &[u8], m: Model, set: RuleSet, p: Place, page: &mut [u8]) -> Place
-    requires { SetRead text.now m set.0 }
-    ensures { page_of result page.new ≡ put (set_text (model_in text.now) set.0) (page_of p page.old) }
+// The names of a set's rules, in the model's order and with commas; `-` where it has none.
+fn put_names(read: ReadText<'_>, set: RuleSet, page: &mut Page<'_>)
+    requires { set.0 < 2 ^ read.model.rules }
+    ensures { page_of page.new ≡ put (set_text (model_in read.entry.text.now) set.0) (page_of page.old) }
 {
-    if set.0 == 0 {
-        return pages::page::put_byte(b'-', p, page);
+    let mut rules = Rules(set);
+    let Some(first) = rules.next() else {
+        page.put_byte(b'-');
+        return;
+    };
+    put_name(read, first, page);
+    for rule in rules {
+        page.put_byte(b',');
+        put_name(read, rule, page);
     }
-    let first = set.first();
-    let mut q = put_name(text, m, first, p, page);
-    let mut rest = set.without(first);
-    while rest.0 != 0 {
-        let next = rest.first();
-        q = pages::page::put_byte(b',', q, page);
-        q = put_name(text, m, next, q, page);
-        rest = rest.without(next);
-    }
-    q
 }
 
 // A line: the key with `=`, the set and byte 10.
-pub(crate) fn set_line(
-    text: &[u8],
-    m: Model,
-    key: &[u8],
-    set: RuleSet,
-    p: Place,
-    page: &mut [u8],
-) -> Place
-    requires { SetRead text.now m set.0 }
-    ensures { page_of result page.new ≡ put (set_line (model_in text.now) key.now set.0) (page_of p page.old) }
+#[tactic(auto, using(pages::specs::Laws::Putting::line_made), unfolding(crate::specs::Sections::set_line))]
+pub(crate) fn set_line(read: ReadText<'_>, key: &[u8], set: RuleSet, page: &mut Page<'_>)
+    requires { set.0 < 2 ^ read.model.rules }
+    ensures { page_of page.new ≡ put (set_line (model_in read.entry.text.now) key.now set.0) (page_of page.old) }
 {
-    let q = pages::page::put(key, p, page);
-    let s = put_names(text, m, set, q, page);
-    pages::page::put_byte(b'\n', s, page)
+    page.put(key);
+    put_names(read, set, page);
+    page.put_byte(b'\n');
 }

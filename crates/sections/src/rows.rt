@@ -1,5 +1,6 @@
 // A line for each state of a trace, and for each set of a list.
-ghost use Rattle.std.specs.Prelude.{◌≡◌};
+ghost use Rattle.std.specs.Prelude.{◌≡◌, ◌<◌, ◌^◌};
+ghost use Rattle.std.specs.List.{All};
 ghost use mathlib.Core.List.{flat_map};
 ghost use Rattle.lines.specs.Bytes.{bytes};
 ghost use Rattle.models.specs.Written.{model_in};
@@ -7,88 +8,62 @@ ghost use Rattle.pages.specs.Page.{page_of, put};
 ghost use Rattle.pages.specs.Numbers.{number_line};
 ghost use Rattle.sections.specs.Sections.{set_line, count_key, set_key, list_lines};
 ghost use Rattle.sections.specs.Decoded.{decoded};
-ghost use Rattle.sections.specs.Known.{SetRead, ListRead};
 
-use models::model::Model;
-use pages::page::Place;
+use crate::names::set_line;
+use crate::read_text::ReadText;
+use pages::page::Page;
 use sets::ruleset::RuleSet;
 use sorting::which::WhichList;
 
-pub(crate) fn state_lines(states: &[u8], p: Place, page: &mut [u8]) -> Place
-    ensures { page_of result page.new ≡ put (flat_map (number_line (bytes "state=")) states.now) (page_of p page.old) }
+pub(crate) fn state_lines(states: &[u8], page: &mut Page<'_>)
+    ensures { page_of page.new ≡ put (flat_map (number_line (bytes "state=")) states.now) (page_of page.old) }
 {
-    let mut q = p;
-    let mut i = 0;
-    while i < states.len() {
-        q = pages::numbers::number_line(b"state=", states[i] as usize, q, page);
-        i += 1;
+    for state in states {
+        page.number_line(b"state=", *state as usize);
     }
-    q
 }
 
-// The count line of a list of n sets.
-fn count_line(which: WhichList, n: usize, p: Place, page: &mut [u8]) -> Place
-    ensures { page_of result page.new ≡ put (number_line (count_key which) n) (page_of p page.old) }
+// The keys of a list's lines: that of its count, and that of each of its sets.
+#[derive(Clone, Copy)]
+struct Keys {
+    count: &'static [u8],
+    set: &'static [u8],
+}
+
+#[tactic(auto, unfolding(crate::specs::Sections::count_key, crate::specs::Sections::set_key))]
+fn keys_of(which: WhichList) -> Keys
+    ensures count { result.count.now ≡ count_key which }
+    ensures set { result.set.now ≡ set_key which }
 {
     match which {
-        WhichList::Cores => pages::numbers::number_line(b"cores=", n, p, page),
-        WhichList::Cuts => pages::numbers::number_line(b"cuts=", n, p, page),
+        WhichList::Cores => Keys {
+            count: b"cores=",
+            set: b"core=",
+        },
+        WhichList::Cuts => Keys {
+            count: b"cuts=",
+            set: b"cut=",
+        },
     }
 }
 
-// The line of a set of a list.
-fn listed_line(
-    text: &[u8],
-    m: Model,
-    which: WhichList,
-    set: RuleSet,
-    p: Place,
-    page: &mut [u8],
-) -> Place
-    requires { SetRead text.now m set.0 }
-    ensures { page_of result page.new ≡ put (set_line (model_in text.now) (set_key which) set.0) (page_of p page.old) }
+// A line for each of the sets that the bytes hold, two bytes a set, low byte first.
+fn set_lines(read: ReadText<'_>, key: &[u8], sets: &[u8], page: &mut Page<'_>)
+    requires { All (λ S. S < 2 ^ read.model.rules) (decoded sets.now) }
+    ensures { page_of page.new ≡ put (flat_map (set_line (model_in read.entry.text.now) key.now) (decoded sets.now)) (page_of page.old) }
 {
-    match which {
-        WhichList::Cores => crate::names::set_line(text, m, b"core=", set, p, page),
-        WhichList::Cuts => crate::names::set_line(text, m, b"cut=", set, p, page),
+    let (pairs, _) = sets.as_chunks::<2>();
+    for pair in pairs {
+        set_line(read, key, RuleSet(u16::from_le_bytes(*pair)), page);
     }
-}
-
-// A line for each of the sets that the bytes hold.
-fn set_lines(
-    text: &[u8],
-    m: Model,
-    which: WhichList,
-    sets: &[u8],
-    p: Place,
-    page: &mut [u8],
-) -> Place
-    requires { ListRead text.now m sets.now }
-    ensures { page_of result page.new ≡ put (flat_map (set_line (model_in text.now) (set_key which)) (decoded sets.now)) (page_of p page.old) }
-{
-    let mut q = p;
-    let mut i = 0;
-    while i < sets.len() / 2 {
-        let low = sets[2 * i] as u16;
-        let high = sets[2 * i + 1] as u16;
-        q = listed_line(text, m, which, RuleSet(low + 256 * high), q, page);
-        i += 1;
-    }
-    q
 }
 
 // The count line of the sets that the bytes hold, and a line for each.
-pub(crate) fn list_lines(
-    text: &[u8],
-    m: Model,
-    which: WhichList,
-    sets: &[u8],
-    p: Place,
-    page: &mut [u8],
-) -> Place
-    requires { ListRead text.now m sets.now }
-    ensures { page_of result page.new ≡ put (list_lines (model_in text.now) which (decoded sets.now)) (page_of p page.old) }
+pub(crate) fn list_lines(read: ReadText<'_>, which: WhichList, sets: &[u8], page: &mut Page<'_>)
+    requires { All (λ S. S < 2 ^ read.model.rules) (decoded sets.now) }
+    ensures { page_of page.new ≡ put (list_lines (model_in read.entry.text.now) which (decoded sets.now)) (page_of page.old) }
 {
-    let q = count_line(which, sets.len() / 2, p, page);
-    set_lines(text, m, which, sets, q, page)
+    let keys = keys_of(which);
+    page.number_line(keys.count, sets.len() / 2);
+    set_lines(read, keys.set, sets, page);
 }

@@ -1,30 +1,44 @@
 -- How a loop fills the masks and marks: the list before the first turn, and what one turn adds.
 -- From the laws of lists given entry by entry. Assumes nothing.
-use Prim.Native.Nat.{ℕ, ◌+◌, ◌-◌, ◌*◌, ◌/◌, ◌%◌, ◌<◌, ◌≤◌, zero-le}
-use mathlib.Core.Path.{◌≡◌, refl, sym, ap, ap₂, ◌∙◌}
-use mathlib.Core.Logic.{◌≢◌}
-use mathlib.Core.Bool.{Bool, true, false, and-false}
-use mathlib.Core.List.{List, ◌++◌, append_assoc, append-nil}
-use native.Mathlib.Omega.{arith}
-use borrow.Author.Tests.{le-ltb, ltb-true}
+use Rattle.std.specs.Prelude.{ℕ, ◌+◌, ◌-◌, ◌*◌, ◌/◌, ◌%◌, ◌<◌, ◌≤◌, ◌≡◌, ◌≢◌, refl, Bool, true, false, ◌&&◌, List, ◌++◌, ltb, length, get_or, take, drop, set, replicate}
+use Rattle.std.proofs.Common.{sym, ◌∙◌, arith, lt-ltb, le-ltb, append_assoc, length-append, length-drop, length-take-le}
+use Rattle.std.proofs.Math.Path.{ap, ap₂, subst}
+use Rattle.std.proofs.lemmas.List.{length-take, length-set, length-replicate, get_or-replicate}
+use Rattle.std.proofs.Math.Decide.{dec_lt}
+use Prim.Native.Nat.{zero-le}
+use mathlib.Core.Bool.{and-false}
+use mathlib.Core.List.{append-nil}
+use borrow.Author.Tests.{ltb-true}
 use borrow.Rule.Slice.PartMut.{put_mid}
-use lib.Dec.{ltb}
-use lib.ListN.{length, take, drop, set, replicate, length-append, length-drop, length-set, drop_of_length-le}
-use lib.Seq.{length-take-le, take_at, drop_at, drop-drop}
+use lib.ListN.{drop_of_length-le}
+use lib.Seq.{take_at, drop_at, drop-drop}
 use Rattle.sets.specs.Tabulated.{tabulate}
-use Rattle.sets.specs.Laws.Tabulated.{length_tabulate, tabulated, same_entries, next_stored, in_parts, part_stored, below_next, none_marked, next_marked}
-use Rattle.semantics.specs.TablesOf.{marks_of, row_entry, rows_of}
-use Rattle.semantics.proofs.Laws.TablesOf.{entry_at}
+use Rattle.sets.specs.Laws.Tabulated.{length_tabulate, tabulated, same_entries, next_stored, in_parts, part_stored, below_next}
+use Rattle.semantics.specs.TablesOf.{marks_of, MarksWhere, row_entry, rows_of}
+use Rattle.semantics.proofs.Laws.TablesOf.{entry_at, length_rows}
 
 -- ---- the marks
 
-pub no_marks : (p : ℕ → Bool) → replicate 128 false ≡ marks_of 0 p
-unfolding marks_of
-no_marks = none_marked 128
+unmarked : (size : ℕ) {answers : ℕ → Bool → Type 0} (marks : List Bool) → marks ≡ replicate size false → size ≡ 128 → MarksWhere answers 0 marks
+unmarked size marks e k = record {
+  size = ap length e ∙ length-replicate {A = Bool} size false ∙ k;
+  each = λ s h. absurd (omega arith);
+  past = λ s _ h. ap (λ l. get_or l s false) e ∙ get_or-replicate size s false false (omega arith);
+}
 
-pub one_mark : (p : ℕ → Bool) (s : ℕ) → s < 128 → set (marks_of s p) s (p s) ≡ marks_of (s + 1) p
+-- at first no state has a mark
+pub no_marks : (answers : ℕ → Bool → Type 0) → MarksWhere answers 0 (replicate 128 false)
+no_marks answers = unmarked 128 (replicate 128 false) refl refl
+
+-- where the test may answer nothing but what p says, the marks are those of p
+pub marks_told : {answers : ℕ → Bool → Type 0} {n : ℕ} {marks : List Bool} → MarksWhere answers n marks → (p : ℕ → Bool)
+    → ((s : ℕ) (b : Bool) → answers s b → b ≡ p s) → marks ≡ marks_of n p
 unfolding marks_of
-one_mark = next_marked 128
+marks_told {n = n} {marks = marks} h p told = tabulated 128 (λ s. ltb s n && p s) false marks h.size (λ s l. at s l (dec_lt s n))
+  where
+    at : (s : ℕ) → s < 128 → Dec (s < n) → get_or marks s false ≡ (ltb s n && p s)
+    at s _ (yes l) = rw (lt-ltb s n l) (told s (get_or marks s false) (h.each s l))
+    at s few (no g) = rw (le-ltb s n (omega arith)) (h.past s (omega arith) few)
 
 -- ---- a list that is filled from the front on
 
@@ -99,3 +113,37 @@ module _ (before : List ℕ) (n : ℕ) (f : ℕ → ℕ → ℕ) where
       ∙ part_stored (128 * s) n (length before) (row_entry before s n f) (row_entry before (s + 1) n f) room
       (λ k l. entry_kept s k (λ _ e. omega arith))
       (λ k l. entry_kept s k (λ t e. omega arith))
+
+-- The first s rows of a table are filled.
+pub record RowsFilled (f : ℕ → ℕ → ℕ) (states : ℕ) (before masks : List ℕ) (s : ℕ) : Type 0 where
+  pub few : states ≤ 128
+  pub space : 128 * (states + 1) ≤ length before
+  pub within : s ≤ states
+  pub entries : masks ≡ rows_of before s states f
+
+pub none_of_rows : (f : ℕ → ℕ → ℕ) (states : ℕ) (before : List ℕ) → states ≤ 128 → 128 * (states + 1) ≤ length before → RowsFilled f states before before 0
+none_of_rows f states before few room = record { few = few; space = room; within = zero-le; entries = no_rows before states f }
+
+module _ (f : ℕ → ℕ → ℕ) (states : ℕ) (before masks : List ℕ) (s : ℕ) (h : RowsFilled f states before masks s) where
+  size : length masks ≡ length before
+  size = ap length h.entries ∙ length_rows before s states f
+
+  -- there is room for one row more
+  row_room : 128 * s + states ≤ length masks
+  row_room = omega (arith, size, h.few, h.space, h.within)
+
+  -- the part from `128 * s` up to `128 * s + states` has come back as a row
+  pub row_added : (row : List ℕ) → row ≡ tabulate (length (take (128 * s + states - 128 * s) (drop (128 * s) masks))) (f s)
+      → put_mid (128 * s) (128 * s + states - 128 * s) masks row ≡ rows_of before (s + 1) states f
+  row_added row said =
+      let k : 128 * s + states - 128 * s ≡ states = omega arith in
+      let n : length (take states (drop (128 * s) masks)) ≡ states = simp (length-take, length-drop) (omega (arith, row_room)) in
+      rw (said, k, n, h.entries) (one_row before states f s (omega (arith, size, row_room)) h.few)
+
+  pub one_row_more : (row : List ℕ) → s < states → row ≡ tabulate (length (take (128 * s + states - 128 * s) (drop (128 * s) masks))) (f s)
+      → RowsFilled f states before (put_mid (128 * s) (128 * s + states - 128 * s) masks row) (s + 1)
+  one_row_more row l said = record { few = h.few; space = h.space; within = omega arith; entries = row_added row said }
+
+  -- all states have their rows
+  pub all_rows : states ≤ s → RowsFilled f states before masks states
+  all_rows l = subst (RowsFilled f states before masks) (omega (arith, h.within)) h

@@ -1,24 +1,23 @@
 -- Four masks side by side in one word, 16 places each: which place each bit of a word goes to, what one rule more adds, and that the 16 places
 -- from 16 * j on are mask j. From the places of a number and the set of the numbers that pass a test. Assumes nothing.
-use Prim.Native.Nat.{ℕ, ◌+◌, ◌-◌, ◌*◌, ◌/◌, ◌%◌, ◌^◌, ◌<◌, ◌≤◌, zero-le}
-use mathlib.Core.Path.{◌≡◌, refl, sym, ap, ap₂, ◌∙◌}
-use mathlib.Core.Bool.{Bool, true, false, not, ◌&&◌, ◌||◌, or-false}
-use mathlib.Core.List.{List}
-use native.Mathlib.Omega.{arith}
+use Rattle.std.specs.Prelude.{ℕ, ◌+◌, ◌-◌, ◌*◌, ◌/◌, ◌%◌, ◌^◌, ◌<◌, ◌≤◌, ◌≡◌, ◌≢◌, refl, Bool, true, false, not, ◌&&◌, ◌||◌, List, [], eqb, ltb, length, get_or, take, set}
+use Rattle.std.specs.Int.Bits.{bit_and, bit_or}
+use Rattle.std.proofs.Common.{sym, ◌∙◌, arith, pow_mono, eqb-true, get_or-take}
+use Rattle.std.proofs.Math.Path.{ap, ap₂}
+use Rattle.std.proofs.lemmas.List.{get_or_past, length-take}
+use mathlib.Core.Bool.{or-false}
 use native.Mathlib.Nat.{mul-mod_left}
-use native.Mathlib.Decide.{ℕ_discrete}
-use borrow.Author.Tests.{lt-ltb, le-ltb, ltb-true, ltb-false, eq-eqb, ne_eqb, eqb-true, not-false}
-use lib.Dec.{eqb, ltb}
-use lib.Bits.{bit_and, bit_or}
-use lib.ListN.{get_or}
-use lib.Pow.{pow_mono, shl-shr}
+use Rattle.std.proofs.Math.Decide.{ℕ_discrete, dec_lt}
+use borrow.Author.Tests.{ltb-true, ltb-false, eq-eqb, ne_eqb, not-false}
+use lib.Pow.{shl-shr}
 use Rattle.sets.specs.Bit.{has}
 use Rattle.sets.specs.Laws.Bit.{has_low, has_high, has_below, has_zero}
 use Rattle.sets.specs.Cores.{none_below}
 use Rattle.sets.specs.Laws.Cores.{none_below_iff, false_if}
-use Rattle.sets.specs.Gathered.{one, set_of}
+use Rattle.sets.specs.Gathered.{one as one_or_none, set_of}
+use Rattle.sets.specs.Tabulated.{tabulate}
 use Rattle.sets.specs.Laws.Gathered.{has_set_of, is_set_of, set_of_lt, set_of_same, set_of_none, or_set_of}
-use Rattle.sets.specs.Laws.Tabulated.{below_next}
+use Rattle.semantics.proofs.Filling.{FilledTo, none_filled, one_filled, all_filled}
 
 -- ---- four bits, 16 places apart
 
@@ -30,7 +29,7 @@ product b = bit_and (b * 0x200040008001) 0x1000100010001
 
 -- Each of the 16 numbers of four bits computes.
 computed : none_below (λ b. not (eqb (product b) (spread_of b))) 16 ≡ true
-unfolding none_below set_of one has
+unfolding none_below set_of one_or_none has
 computed = refl
 
 pub spread_is : (b : ℕ) → b < 16 → product b ≡ spread_of b
@@ -75,59 +74,100 @@ module _ (b i n : ℕ) (h : i < 16) (l : n < 64) where
 
 -- ---- the four masks of the states from t on
 
--- Place n has bit t + n / 16 of the word of rule n % 16, where that is one of the rules.
-abbrev pub in_four : (words : List ℕ) (t rules n : ℕ) → Bool
-in_four words t rules n = ltb (n % 16) rules && has (get_or words (n % 16) 0) (t + n / 16)
+-- Place n has bit t + n / 16 of the word of rule n % 16.
+abbrev pub in_four : (words : List ℕ) (t n : ℕ) → Bool
+in_four words t n = has (get_or words (n % 16) 0) (t + n / 16)
 
-joined : (f : ℕ → Bool) (k i : ℕ) → ((ltb k i && f k) || (eqb k i && f i)) ≡ (ltb k (i + 1) && f k)
-joined f k i = go (ℕ_discrete k i)
-  where
-    go : Dec (k ≡ i) → ((ltb k i && f k) || (eqb k i && f i)) ≡ (ltb k (i + 1) && f k)
-    go (yes e) = rw (le-ltb k i (omega arith), eq-eqb k i e, lt-ltb k (i + 1) (omega arith), e)
-    go (no e) = rw (ne_eqb k i e, below_next k i e, or-false)
+no_bit : (k : ℕ) → has 0 k ≡ false
+no_bit k = false_if (has 0 k) (has_zero k)
 
-module _ (words : List ℕ) (t : ℕ) where
-  pub no_rule : 0 ≡ set_of 64 (in_four words t 0)
-  no_rule = set_of_none 64 ∙ set_of_same 64 _ (in_four words t 0) (λ n l. rw (le-ltb (n % 16) 0 zero-le))
+-- Before the first word no place has a bit.
+pub no_word : (t : ℕ) → 0 ≡ set_of 64 (in_four [] t)
+no_word t = set_of_none 64 ∙ set_of_same 64 _ (in_four [] t) (λ n l. sym (no_bit (t + n / 16)))
 
-  pub with_rule_lem : (i four bits : ℕ) → i < 16 → four ≡ set_of 64 (in_four words t i) → bits ≡ spread_of (get_or words i 0 / 2 ^ t % 16)
-      → bit_or four (bits * 2 ^ i % 2 ^ 64) ≡ set_of 64 (in_four words t (i + 1))
-  with_rule_lem i four bits h e said =
+-- The next word is no other than the one at its place.
+other_word : (words : List ℕ) (i k : ℕ) → k ≢ i → Dec (k < i) → get_or (take i words) k 0 ≡ get_or (take (i + 1) words) k 0
+other_word words i k e (yes l) = get_or-take i words k 0 l ∙ sym (get_or-take (i + 1) words k 0 (omega arith))
+other_word words i k e (no g) =
+    get_or_past (take i words) k 0 (omega (arith, length-take i words))
+    ∙ sym (get_or_past (take (i + 1) words) k 0 (omega (arith, length-take (i + 1) words)))
+
+module _ (words : List ℕ) (t i : ℕ) (h : i < length words) where
+  -- A place of word i has its bit, and every other place what it has of the words before.
+  joined : (n : ℕ) → (in_four (take i words) t n || (eqb (n % 16) i && has (get_or words i 0) (t + n / 16))) ≡ in_four (take (i + 1) words) t n
+  joined n = go (ℕ_discrete (n % 16) i)
+    where
+      go : Dec (n % 16 ≡ i) → (in_four (take i words) t n || (eqb (n % 16) i && has (get_or words i 0) (t + n / 16))) ≡ in_four (take (i + 1) words) t n
+      go (yes e) =
+          rw (eq-eqb (n % 16) i e, e, get_or_past (take i words) i 0 (omega (arith, length-take i words)), get_or-take (i + 1) words i 0 (omega arith), no_bit (t + n / 16))
+          refl
+      go (no e) = rw (ne_eqb (n % 16) i e, or-false) (ap (λ (w : ℕ). has w (t + n / 16)) (other_word words i (n % 16) e (dec_lt (n % 16) i)))
+
+  pub with_word : (four bits : ℕ) → i < 16 → four ≡ set_of 64 (in_four (take i words) t) → bits ≡ spread_of (get_or words i 0 / 2 ^ t % 16)
+      → bit_or four (bits * 2 ^ i % 2 ^ 64) ≡ set_of 64 (in_four (take (i + 1) words) t)
+  with_word four bits few e said =
       let w = get_or words i 0 in
       rw (e, said)
-      (or_set_of 64 (set_of 64 (in_four words t i)) (spread_of (w / 2 ^ t % 16) * 2 ^ i % 2 ^ 64) (set_of_lt 64 (in_four words t i)) (omega arith)
-      ∙ set_of_same 64 _ (in_four words t (i + 1))
+      (or_set_of 64 (set_of 64 (in_four (take i words) t)) (spread_of (w / 2 ^ t % 16) * 2 ^ i % 2 ^ 64) (set_of_lt 64 (in_four (take i words) t)) (omega arith)
+      ∙ set_of_same 64 _ (in_four (take (i + 1) words) t)
       (λ n l.
-      ap₂ ◌||◌ (has_set_of 64 (in_four words t i) n l)
-      (placed (w / 2 ^ t % 16) i n h l
+      ap₂ ◌||◌ (has_set_of 64 (in_four (take i words) t) n l)
+      (placed (w / 2 ^ t % 16) i n few l
       ∙ ap (λ x. eqb (n % 16) i && x) (has_low 4 (w / 2 ^ t) (n / 16) (omega arith) ∙ has_high t w (n / 16)))
-      ∙ joined (λ k. has (get_or words k 0) (t + n / 16)) (n % 16) i))
+      ∙ joined n))
 
 -- ---- one of the four
 
 -- The 16 places from 16 * j on.
-pub quarter : (four j : ℕ) → four / 2 ^ (16 * j) % 65536 ≡ set_of 16 (λ i. has four (16 * j + i))
+abbrev pub one_of_four : (four j : ℕ) → ℕ
+one_of_four four j = set_of 16 (λ i. has four (16 * j + i))
+
+pub quarter : (four j : ℕ) → four / 2 ^ (16 * j) % 65536 ≡ one_of_four four j
 quarter four j =
     is_set_of 16 (four / 2 ^ (16 * j) % 65536) (λ i. has four (16 * j + i)) (omega arith)
     (λ i l. has_low 16 (four / 2 ^ (16 * j)) i l ∙ has_high (16 * j) four i)
 
--- A test that only numbers below n pass.
-below_only : (n : ℕ) (p : ℕ → Bool) → n ≤ 16 → set_of 16 (λ i. ltb i n && p i) ≡ set_of n p
-below_only n p h =
-    sym (is_set_of 16 (set_of n p) (λ i. ltb i n && p i) (omega (arith, set_of_lt n p, pow_mono h)) (λ i l. at i (ltb i n) refl))
+-- A test that no number from n on passes.
+below_only : (n : ℕ) (p : ℕ → Bool) → n ≤ 16 → ((i : ℕ) → n ≤ i → p i ≡ false) → set_of 16 p ≡ set_of n p
+below_only n p h none = sym (is_set_of 16 (set_of n p) p (omega (arith, set_of_lt n p, pow_mono h)) (λ i _. at i (dec_lt i n)))
   where
-    at : (i : ℕ) (b : Bool) → ltb i n ≡ b → has (set_of n p) i ≡ (ltb i n && p i)
-    at i true e = rw e (has_set_of n p i (ltb-true i n e))
-    at i false e = rw e (false_if (has (set_of n p) i) (λ m. omega (arith, ltb-false i n e, has_below n (set_of n p) i (set_of_lt n p) m)))
+    at : (i : ℕ) → Dec (i < n) → has (set_of n p) i ≡ p i
+    at i (yes l) = has_set_of n p i l
+    at i (no g) = false_if (has (set_of n p) i) (λ m. g (has_below n (set_of n p) i (set_of_lt n p) m)) ∙ sym (none i (omega arith))
+
+-- the mask of a state, by the words of the rules
+abbrev pub mask_in : (words : List ℕ) (t : ℕ) → ℕ
+mask_in words t = set_of (length words) (λ i. has (get_or words i 0) t)
 
 -- Mask j of the four is that of the state t + j.
-pub mask_in_four : (words : List ℕ) (rules t four j : ℕ) → rules ≤ 16 → j < 4 → four ≡ set_of 64 (in_four words t rules)
-    → set_of 16 (λ i. has four (16 * j + i)) ≡ set_of rules (λ i. has (get_or words i 0) (t + j))
-mask_in_four words rules t four j few h e =
-    set_of_same 16 _ (λ i. ltb i rules && has (get_or words i 0) (t + j))
+pub mask_in_four : (words : List ℕ) (t four j : ℕ) → length words ≤ 16 → j < 4 → four ≡ set_of 64 (in_four words t)
+    → set_of 16 (λ i. has four (16 * j + i)) ≡ mask_in words (t + j)
+mask_in_four words t four j few h e =
+    set_of_same 16 _ (λ i. has (get_or words i 0) (t + j))
     (λ i l.
     let r : (16 * j + i) % 16 ≡ i = omega arith in
     let q : (16 * j + i) / 16 ≡ j = omega arith in
-    ap (λ (S : ℕ). has S (16 * j + i)) e ∙ has_set_of 64 (in_four words t rules) (16 * j + i) (omega arith)
-    ∙ ap₂ (λ (k p : ℕ). ltb k rules && has (get_or words k 0) (t + p)) r q)
-    ∙ below_only rules (λ i. has (get_or words i 0) (t + j)) few
+    ap (λ (S : ℕ). has S (16 * j + i)) e ∙ has_set_of 64 (in_four words t) (16 * j + i) (omega arith)
+    ∙ ap₂ (λ (k p : ℕ). has (get_or words k 0) (t + p)) r q)
+    ∙ below_only (length words) (λ i. has (get_or words i 0) (t + j)) few
+    (λ i g. ap (λ (w : ℕ). has w (t + j)) (get_or_past words i 0 g) ∙ no_bit (t + j))
+
+-- Stores of all four.
+module _ (four : ℕ) (part : List ℕ) (all : length part ≡ 4) where
+  one : FilledTo (one_of_four four) part (set part 0 (four % 65536)) 1
+  one =
+      let first : four % 65536 ≡ four / 1 % 65536 = omega arith in
+      one_filled (one_of_four four) part part 0 (none_filled (one_of_four four) part) _ (omega arith) (first ∙ quarter four 0)
+
+  two : FilledTo (one_of_four four) part (set (set part 0 (four % 65536)) 1 (four / 2 ^ 16 % 65536)) 2
+  two = one_filled (one_of_four four) part _ 1 one _ (omega (arith, one.kept)) (quarter four 1)
+
+  three : FilledTo (one_of_four four) part (set (set (set part 0 (four % 65536)) 1 (four / 2 ^ 16 % 65536)) 2 (four / 2 ^ 32 % 65536)) 3
+  three = one_filled (one_of_four four) part _ 2 two _ (omega (arith, two.kept)) (quarter four 2)
+
+  last : FilledTo (one_of_four four) part (set (set (set (set part 0 (four % 65536)) 1 (four / 2 ^ 16 % 65536)) 2 (four / 2 ^ 32 % 65536)) 3 (four / 2 ^ 48 % 65536)) 4
+  last = one_filled (one_of_four four) part _ 3 three _ (omega (arith, three.kept)) (quarter four 3)
+
+  pub stored : set (set (set (set part 0 (four % 65536)) 1 (four / 2 ^ 16 % 65536)) 2 (four / 2 ^ 32 % 65536)) 3 (four / 2 ^ 48 % 65536)
+      ≡ tabulate (length part) (one_of_four four)
+  stored = all_filled (one_of_four four) part _ 4 last (omega (arith, last.kept))

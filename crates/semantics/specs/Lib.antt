@@ -4,3 +4,4 @@
 pub mod Meaning
 pub mod TablesOf
 pub mod Places
+pub mod Lent

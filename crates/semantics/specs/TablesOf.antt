@@ -1,12 +1,13 @@
 -- The masks and tables of a model, as code holds them: for each pair of states its mask, the set of the rules whose step part it meets; for each state its
 -- start mask, the set of the rules whose start part it meets; and the marks of the states that meet `init` and of the bad ones. The masks go over the list
 -- that was lent for them. Assumes nothing: these are definitions.
-use Rattle.std.specs.Prelude.{ℕ, ◌+◌, ◌*◌, ◌/◌, ◌%◌, ◌^◌, ◌≤◌, Bool, cond, ◌&&◌, List, ltb, length, get_or}
+use Rattle.std.specs.Prelude.{ℕ, ◌+◌, ◌*◌, ◌/◌, ◌%◌, ◌^◌, ◌≤◌, ◌<◌, ◌≡◌, Bool, false, cond, ◌&&◌, List, ltb, length, get_or}
 use Rattle.sets.specs.Gathered.{set_of}
 use Rattle.sets.specs.Tabulated.{tabulate}
 use Rattle.models.specs.declared.model.Model.{Model}
-use Rattle.models.specs.Written.{Described}
+use Rattle.models.specs.Written.{Described, described}
 use Rattle.systems.specs.declared.tables.Tables.{Tables}
+use Rattle.systems.specs.declared.systems.Systems.{Systems}
 use Rattle.semantics.specs.Meaning.{init_met, start_met, bad_of, step_met}
 
 -- ---- the masks
@@ -41,6 +42,12 @@ masks_of before M = rows_of before (2 ^ M.vars + 1) (2 ^ M.vars) (mask_row M)
 unfoldable pub marks_of : ℕ → (ℕ → Bool) → List Bool
 marks_of n p = tabulate 128 (λ s. ltb s n && p s)
 
+-- The marks of the states below n that a test passes, of which is known what it may answer at each: 128 entries, false from n on.
+pub record MarksWhere (answers : ℕ → Bool → Type 0) (n : ℕ) (marks : List Bool) : Type 0 where
+  pub size : length marks ≡ 128
+  pub each : (s : ℕ) → s < n → answers s (get_or marks s false)
+  pub past : (s : ℕ) → n ≤ s → s < 128 → get_or marks s false ≡ false
+
 unfoldable pub tables_of : Described → Tables
 tables_of M = record { rules = length M.rules; states = 2 ^ M.vars; init = marks_of (2 ^ M.vars) (init_met M); bad = marks_of (2 ^ M.vars) (bad_of M) }
 
@@ -56,3 +63,12 @@ pub record Few (m : Model) : Type 0 where
 pub record RoomFor (m : Model) (masks : List ℕ) : Type 0 where
   pub few : Few m
   pub room : 128 * (2 ^ m.vars + 1) ≤ length masks
+
+-- ---- when they are filled
+
+-- The masks and tables are those of the model that the text tells, over what was there before.
+pub record Filled (text : List ℕ) (m : Model) (s : Systems) : Type 0 where
+  pub before : List ℕ
+  pub room : RoomFor m before
+  pub masks_are : s.masks.now ≡ masks_of before (described text m)
+  pub tables_are : s.tables.now ≡ tables_of (described text m)

@@ -1,71 +1,57 @@
 // The start masks: for each state the set of the rules whose start part it meets.
-ghost use Rattle.std.specs.Prelude.{◌≡◌, eqb, length, get_or};
+ghost use Rattle.std.specs.Prelude.{◌≡◌, ◌≤◌, length};
+ghost use Rattle.std.specs.List.{list_all};
+ghost use Rattle.std.specs.Option.{is_none};
 ghost use Rattle.sets.specs.Tabulated.{tabulate};
-ghost use Rattle.semantics.specs.Meaning.{every};
-ghost use Rattle.semantics.specs.Places.{meets_start, start_mask_by, RuleEntries, StartsFillable};
+ghost use Rattle.semantics.specs.Places.{meets_start, start_mask_by};
 
+use rule_lines::names::RuleParts;
 use sets::ruleset::RuleSet;
 
-// Whether a state meets the start part that begins so many bytes behind the place of a step part. Where there is none, every state does.
-fn meets_start(text: &[u8], step: usize, bytes: u8, s: usize) -> bool
-    ensures { result ≡ meets_start text.now step bytes s }
+// Whether a state meets the start part of the rule whose parts stand at these places. Where it has none, every state does.
+#[tactic(auto, unfolding(crate::specs::Places::meets_start))]
+fn meets_start(text: &[u8], parts: RuleParts, s: usize) -> bool
+    ensures { result ≡ meets_start text.now parts s }
 {
-    if bytes == 0 {
-        return true;
+    match parts.start {
+        None => true,
+        Some(bytes) => {
+            crate::values::is_met(slices::parts::rest(text, parts.step), bytes as usize, s, s)
+        }
     }
-    crate::values::is_met(slices::parts::rest(text, step), bytes as usize, s, s)
 }
 
 // The set of the rules whose start part a state meets.
-fn start_mask(text: &[u8], steps: &[usize; 16], starts: &[u8; 16], rules: usize, s: usize) -> u16
-    requires { StartsFillable steps.now starts.now rules }
-    ensures { result ≡ start_mask_by text.now steps.now starts.now rules s }
+fn start_mask(text: &[u8], rules: &[RuleParts], s: usize) -> u16
+    requires { length rules.now ≤ 16 }
+    ensures { result ≡ start_mask_by text.now rules.now s }
 {
     let mut met = RuleSet::empty();
-    let mut i = 0;
-    while i < rules {
-        if meets_start(text, steps[i], starts[i], s) {
+    for (i, parts) in rules.iter().enumerate() {
+        if meets_start(text, *parts, s) {
             met = met.with(i);
         }
-        i += 1;
     }
     met.0
 }
 
 // Whether none of the rules has a start part.
-fn none_has(starts: &[u8; 16], rules: usize) -> bool
-    requires { RuleEntries starts.now rules }
-    ensures { result ≡ every rules (λ i. eqb (get_or starts.now i 0) 0) }
+fn none_has(rules: &[RuleParts]) -> bool
+    ensures { result ≡ list_all (λ p. is_none p.start) rules.now }
 {
-    let mut none = true;
-    let mut i = 0;
-    while i < rules {
-        none = none & (starts[i] == 0);
-        i += 1;
-    }
-    none
+    rules.iter().all(|parts| parts.start.is_none())
 }
 
 // The start masks of the states from 0 on, as many as the row has entries. Without start parts every one has all rules, and no rule is looked at again.
-pub(crate) fn fill_starts(
-    text: &[u8],
-    steps: &[usize; 16],
-    starts: &[u8; 16],
-    rules: usize,
-    row: &mut [u16],
-)
-    requires { StartsFillable steps.now starts.now rules }
-    ensures { row.new ≡ tabulate (length row.old) (start_mask_by text.now steps.now starts.now rules) }
+pub(crate) fn fill_starts(text: &[u8], rules: &[RuleParts], row: &mut [u16])
+    requires { length rules.now ≤ 16 }
+    ensures { row.new ≡ tabulate (length row.old) (start_mask_by text.now rules.now) }
 {
-    let none = none_has(starts, rules);
-    let all = RuleSet::full(rules);
-    let mut s = 0;
-    while s < row.len() {
-        row[s] = if none {
-            all.0
-        } else {
-            start_mask(text, steps, starts, rules, s)
-        };
-        s += 1;
+    if none_has(rules) {
+        row.fill(RuleSet::full(rules.len()).0);
+    } else {
+        for (s, mask) in row.iter_mut().enumerate() {
+            *mask = start_mask(text, rules, s);
+        }
     }
 }

@@ -1,8 +1,7 @@
 // The masks and tables of a model, computed once from its text.
 ghost use Rattle.std.specs.Prelude.{◌≡◌, ◌^◌, ◌≤◌};
-ghost use Rattle.std.specs.Bool.{beq};
 ghost use Rattle.models.specs.Written.{described};
-ghost use Rattle.semantics.specs.TablesOf.{marks_of, masks_of, tables_of, RoomFor};
+ghost use Rattle.semantics.specs.TablesOf.{MarksWhere, masks_of, tables_of, RoomFor};
 ghost use Rattle.semantics.specs.Places.{meets_all};
 
 use models::model::Model;
@@ -17,28 +16,24 @@ pub fn state_count(vars: usize) -> usize
 }
 
 // Whether a state meets each of the expressions that stand at these places of the text.
+#[tactic(auto, unfolding(crate::specs::Places::meets_all))]
 fn meets_all(text: &[u8], places: &[usize], s: usize) -> bool
     ensures { result ≡ meets_all text.now places.now s }
 {
-    let mut met = true;
-    let mut j = 0;
-    while j < places.len() {
-        met = met & crate::values::is_met(text, places[j], s, s);
-        j += 1;
-    }
-    met
+    places
+        .iter()
+        .all(|place| crate::values::is_met(text, *place, s, s))
 }
 
-// The marks of the states of which it is as wanted that they meet each of the expressions at these places.
-fn marks_of(text: &[u8], places: &[usize], states: usize, wanted: bool) -> [bool; 128]
-    requires { states ≤ 128 }
-    ensures { result ≡ marks_of states (λ s. beq (meets_all text.now places.now s) wanted) }
+// The marks of the states that pass a test.
+fn marks_where<F: Fn(usize) -> bool>(states: usize, test: F) -> [bool; 128]
+    requires few { states ≤ 128 }
+    requires callable { F.IsAlwaysCallable test }
+    ensures { MarksWhere (F.post test) states result }
 {
     let mut marks = [false; 128];
-    let mut s = 0;
-    while s < states {
-        marks[s] = meets_all(text, places, s) == wanted;
-        s += 1;
+    for s in 0..states {
+        marks[s] = test(s);
     }
     marks
 }
@@ -50,17 +45,12 @@ pub fn fill(text: &[u8], m: Model, masks: &mut [u16]) -> Tables
     ensures masks_after { masks.new ≡ masks_of masks.old (described text.now m) }
 {
     let states = state_count(m.vars);
-    let steps = m.steps;
-    let starts = m.starts;
-    crate::masks::fill_masks(text, &steps, &starts, m.rules, states, masks);
-    let places = [m.init];
-    let props = m.props;
-    let init = marks_of(text, &places[..], states, true);
-    let bad = marks_of(text, &props[..m.properties], states, false);
+    crate::masks::fill_masks(text, &m.parts[..m.rules], states, masks);
+    let props = &m.props[..m.properties];
     Tables {
         rules: m.rules,
         states,
-        init,
-        bad,
+        init: marks_where(states, |s| crate::values::is_met(text, m.init, s, s)),
+        bad: marks_where(states, |s| !meets_all(text, props, s)),
     }
 }

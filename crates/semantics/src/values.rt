@@ -2,17 +2,13 @@
 ghost use Rattle.std.specs.Prelude.{◌≡◌};
 ghost use Rattle.semantics.specs.Places.{meets, word_at};
 
-use exprs::words::Worded;
-
 // The expression at a place of the text at 64 next states at once. Where none can be read, no state meets it.
 pub(crate) fn word_of(text: &[u8], place: usize, s: usize, block: usize) -> u64
     ensures { result ≡ word_at text.now place s block }
 {
-    let w = exprs::words::words(slices::parts::rest(text, place), s, block);
-    match w {
-        Worded::Word(x, _) => x,
-        Worded::NoWord => 0,
-    }
+    let found = exprs::words::words(slices::parts::rest(text, place), s, block);
+    let (word, _) = found.unwrap_or((0, 0));
+    word
 }
 
 // Whether two states meet the expression at a place of the text: one bit of its word.

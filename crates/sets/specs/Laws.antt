@@ -8,7 +8,6 @@ pub mod Gathered
 pub mod Next
 pub mod Tabulated
 pub mod Choice
-pub mod Rows
 pub mod First
 pub mod Listed
 pub mod Edges

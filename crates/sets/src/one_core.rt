@@ -1,9 +1,8 @@
 // One core by an order of the rules.
 
-// What was found so far: whether a set that holds, which set (0 if none), and how many judgements were made.
+// What was found so far: the set that is left, if the full set holds, and how many judgements were made.
 #[derive(Clone, Copy)]
 pub struct OneCore {
-    pub holds: bool,
-    pub set: u16,
+    pub core: Option<u16>,
     pub judgements: usize,
 }

@@ -5,7 +5,7 @@ ghost use Rattle.std.specs.Int.Count.{ones, count_trailing_zeros};
 ghost use Rattle.sets.specs.Bit.{has, full};
 ghost use Rattle.sets.specs.Sets.{without, with};
 
-#[derive(Clone, Copy)]
+#[derive(Clone, Copy, Debug, PartialEq, Eq)]
 pub struct RuleSet(pub u16);
 
 // How many sets of so many rules there are: each set's number is below it.
@@ -20,7 +20,7 @@ pub fn set_count(rules: usize) -> usize
 pub fn less(rules: u16, gone: u16) -> u16
     ensures { result ≡ rules - bit_and rules gone }
 {
-    rules - (rules & gone)
+    rules & !gone
 }
 
 impl RuleSet {
@@ -45,17 +45,18 @@ impl RuleSet {
     pub fn size(self) -> usize
         ensures { result ≡ ones self.0 }
     {
-        u16::count_ones(self.0) as usize
+        self.0.count_ones() as usize
     }
 
-    // The first rule of the set in the model's order; 16 if it has none.
+    // The first rule of the set in the model's order; 16 if it has none, as the library counts a number's trailing zeros.
     pub fn first(self) -> usize
         ensures { result ≡ count_trailing_zeros 16 self.0 }
     {
-        u16::trailing_zeros(self.0) as usize
+        self.0.trailing_zeros() as usize
     }
 
     // Whether a rule is in the set.
+    #[tactic(auto, unfolding(crate::specs::Bit::has))]
     pub fn has(self, rule: usize) -> bool
         requires { rule < 16 }
         ensures { result ≡ has self.0 rule }
@@ -68,14 +69,15 @@ impl RuleSet {
         requires { rule < 16 }
         ensures { result.0 ≡ without self.0 rule }
     {
-        RuleSet(self.0 - (self.0 & (1u16 << rule)))
+        RuleSet(self.0 & !(1 << rule))
     }
 
     // The set with a rule, which may be in it already.
+    #[tactic(auto, unfolding(crate::specs::Sets::with))]
     pub fn with(self, rule: usize) -> RuleSet
         requires { rule < 16 }
         ensures { result.0 ≡ with self.0 rule }
     {
-        RuleSet(self.0 | (1u16 << rule))
+        RuleSet(self.0 | 1 << rule)
     }
 }

@@ -1,7 +1,7 @@
 // The numbers below 64 as the bits of a word, so that 64 sets of six rules are handled at once.
-ghost use Rattle.std.specs.Prelude.{◌≡◌, ◌<◌};
+ghost use Rattle.std.specs.Prelude.{◌≡◌, ◌<◌, cond};
 ghost use Rattle.sets.specs.Bit.{has};
-ghost use Rattle.sets.specs.Sets.{part};
+ghost use Rattle.sets.specs.Sets.{part, apart};
 ghost use Rattle.sets.specs.Gathered.{set_of};
 
 // The sets that have a rule.
@@ -19,34 +19,32 @@ pub fn having(rule: usize) -> u64
     }
 }
 
+// The sets that have each rule of a set; with `none`, those that have no rule of it.
+fn agreeing(set: usize, none: bool) -> u64
+    requires { set < 64 }
+    ensures { result ≡ set_of 64 (λ t. cond none (apart set t) (part set t)) }
+{
+    let mut word = u64::MAX;
+    for rule in 0..6 {
+        if (set >> rule) % 2 == 1 {
+            word &= if none { !having(rule) } else { having(rule) };
+        }
+    }
+    word
+}
+
 // The sets of which a set is a part.
 pub fn above(set: usize) -> u64
     requires { set < 64 }
     ensures { result ≡ set_of 64 (λ t. part set t) }
 {
-    let mut word = 0xFFFF_FFFF_FFFF_FFFFu64;
-    let mut i = 0;
-    while i < 6 {
-        if (set >> i) % 2 == 1 {
-            word = word & having(i);
-        }
-        i += 1;
-    }
-    word
+    agreeing(set, false)
 }
 
-// The parts of a set.
+// The parts of a set: they have no rule that it lacks.
 pub fn below(set: usize) -> u64
     requires { set < 64 }
     ensures { result ≡ set_of 64 (λ t. part t set) }
 {
-    let mut word = 0xFFFF_FFFF_FFFF_FFFFu64;
-    let mut i = 0;
-    while i < 6 {
-        if (set >> i) % 2 == 0 {
-            word = word & !having(i);
-        }
-        i += 1;
-    }
-    word
+    agreeing(63 - set, true)
 }

@@ -9,10 +9,11 @@ pub fn front(s: &[u8], to: usize) -> &[u8]
     ensures result_value { result.now ≡ take to s.now }
     ensures ref_ptr_value { result.ref_ptr ≡ s.entry.ref_ptr }
 {
-    if to < s.len() { &s[..to] } else { s }
+    &s[..to.min(s.len())]
 }
 
 // What follows the first `from` bytes.
+#[tactic(auto, unfolding(crate::specs::Address::rest_address, crate::specs::Address::bytes_on))]
 pub fn rest(s: &[u8], from: usize) -> &[u8]
     ensures result_value { result.now ≡ drop from s.now }
     ensures ref_ptr_value { result.ref_ptr ≡ rest_address s.entry.ref_ptr s.now from }
@@ -21,36 +22,25 @@ pub fn rest(s: &[u8], from: usize) -> &[u8]
 }
 
 // The bytes from `from` up to `to`, or up to the end where there are fewer.
+#[tactic(auto, unfolding(crate::specs::Address::part_address, crate::specs::Address::rest_address))]
 pub fn part(s: &[u8], from: usize, to: usize) -> &[u8]
     ensures result_value { result.now ≡ take (to - from) (drop from s.now) }
     ensures ref_ptr_value { result.ref_ptr ≡ part_address s.entry.ref_ptr s.now from to }
 {
-    if s.len() < to {
-        return rest(s, from);
-    }
-    if from <= to { &s[from..to] } else { &s[..0] }
+    rest(front(s, to), from)
 }
 
 // The byte at a place, and 0 past the end.
 pub fn byte_at(s: &[u8], at: usize) -> u8
     ensures { result ≡ get_or s.now at 0 }
 {
-    if at < s.len() { s[at] } else { 0 }
+    s.get(at).copied().unwrap_or(0)
 }
 
 // Whether two slices hold the same bytes.
+#[tactic(auto, unfolding(crate::specs::Same::same))]
 pub fn same_bytes(a: &[u8], b: &[u8]) -> bool
     ensures { result ≡ same a.now b.now }
 {
-    if a.len() != b.len() {
-        return false;
-    }
-    let mut i = 0;
-    while i < a.len() {
-        if a[i] != b[i] {
-            return false;
-        }
-        i += 1;
-    }
-    true
+    a == b
 }

@@ -1,3 +1,4 @@
 -- What the proofs of several functions use.
-mod Passing
+mod Folded
+mod Putting
 mod Written

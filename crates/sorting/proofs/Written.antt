@@ -25,7 +25,7 @@ module _ (l m before now : List ℕ) (at : ℕ) (w : Written l before now at) (f
   place_is : length (bytes_of l) ≡ at
   place_is = length_bytes_of l ∙ sym w.place
 
-  same_size : length now ≡ length before
+  pub same_size : length now ≡ length before
   unfolding overwritten
   same_size =
       ap length w.bytes ∙ length-append (bytes_of l) (drop (length (bytes_of l)) before)
@@ -38,10 +38,10 @@ module _ (l m before now : List ℕ) (at : ℕ) (w : Written l before now at) (f
       ∙ drop_at (bytes_of l) (drop (length (bytes_of l)) before) at place_is
       ∙ ap (λ (n : ℕ). drop n before) place_is
 
-  fits_rest : 2 * length m ≤ length (mid_of at (length now - at) now)
+  pub fits_rest : 2 * length m ≤ length (mid_of at (length now - at) now)
   fits_rest = rw rest_is (omega (arith, length-drop at before, sum))
 
-  one_more : (part : List ℕ) (n : ℕ) → Written m (mid_of at (length now - at) now) part n
+  pub one_more : (part : List ℕ) (n : ℕ) → Written m (mid_of at (length now - at) now) part n
       → Written (l ++ m) before (put_mid at (length now - at) now part) (at + n)
   unfolding overwritten
   one_more part n v =

@@ -1,6 +1,6 @@
 // Which of the two lists is meant.
 
-#[derive(Clone, Copy)]
+#[derive(Clone, Copy, Debug, PartialEq, Eq)]
 pub enum WhichList {
     Cores,
     Cuts,

@@ -2,4 +2,5 @@
 // read. No text is known here. The searches that go over them are in `searches` and `verdicts`.
 #![tactic(auto)]
 
+pub mod systems;
 pub mod tables;

@@ -1,97 +1,113 @@
--- A run followed by its parents: it has at most 128 states, and its states are written from the end. From the laws of the runs that arrays hold.
+-- A run followed by its parents: it has at most 128 states, and its states are written from the end. From the laws of the runs that a list holds.
 -- Assumes nothing.
 use Prim.Native.Nat.{ℕ, zero, suc, ◌+◌, ◌-◌, ◌≤◌, ◌<◌}
-use mathlib.Core.Path.{◌≡◌, refl, sym, ap, ◌∙◌}
-use mathlib.Core.Logic.{⊎_elim}
+use Rattle.std.specs.Prelude.{◌≡◌, Option, None, Some, MatchOption, length, get_or, set, take, drop, replicate}
+use Rattle.std.proofs.Math.Path.{refl}
+use Rattle.std.proofs.Common.{sym, ap, ap₂, ◌∙◌, arith, Bor}
+use Rattle.std.specs.Slice.{IsItemAt}
 use mathlib.Core.List.{List, [], ◌∷◌, ◌++◌}
-use mathlib.Mathlib.Data.Bool.Basic.{dichotomy}
-use native.Mathlib.Nat.{eq-or-lt_of_le}
-use native.Mathlib.Omega.{arith}
-use borrow.Author.Tests.{ltb-true, ltb-false}
-use lib.Dec.{ltb}
-use lib.ListN.{length, get_or, set, replicate, length-append, length-set, length-replicate, get_or-append, get_or-eq_default}
-use lib.Seq.{ext_get_or, get_or_at, get_or-set_same, get_or-set_other}
-use Rattle.traces.specs.declared.runs.Runs.{Runs}
+use native.Mathlib.Decide.{dec_lt}
+use Rattle.std.proofs.Math.ListN.{length-append, length-set, length-drop, get_or-eq_default}
+use Rattle.std.proofs.lemmas.List.{append_assoc, append-nil, take_all, drop_all, drop-set, drop-replicate}
+use Rattle.traces.specs.declared.runs.Run.{Run}
 use Rattle.traces.specs.declared.trace.Trace.{Trace}
-use Rattle.traces.specs.Stored.{runs_in, Sound}
+use Rattle.traces.specs.Stored.{no_run, before, runs_in, Chained}
 use Rattle.traces.specs.Traced.{trace_with}
-use Rattle.traces.specs.Laws.Runs.{get_d_repeat, sound_few, sound_length, sound_run}
+use Rattle.traces.specs.Laws.Runs.{length_runs_in, chained_run}
 
 -- ---- how long a run is
 
-module _ {x : Runs} (s : Sound x) where
-  pub run_past : (at : ℕ) → x.count ≤ at → get_or (runs_in x) at [] ≡ []
-  run_past at h = get_or-eq_default (runs_in x) [] {n = at} (omega (arith, sound_length s))
+module _ {runs : List Run} (s : Chained runs) where
+  run_past : (k : ℕ) → length runs ≤ k → get_or (runs_in runs) k [] ≡ []
+  run_past k h = get_or-eq_default (runs_in runs) [] {n = k} (omega (arith, length_runs_in runs))
 
-  pub run_longer : (at : ℕ) → at < x.count → length (get_or (runs_in x) at []) ≡ length (get_or (runs_in x) (get_or x.parents at 0) []) + 1
-  run_longer at h = ap length (sound_run s at h) ∙ length-append (get_or (runs_in x) (get_or x.parents at 0) []) (get_or x.order at 0 ∷ [])
+  -- Where the runs found earlier have no more states than their places allow, so has this one.
+  no_longer : (k : ℕ) → k < length runs → ((p : ℕ) → p < k → length (get_or (runs_in runs) p []) ≤ suc p) → length (get_or (runs_in runs) k []) ≤ suc k
+  unfolding before
+  no_longer k g earlier = omega (arith, ap length (chained_run s k g), length-append (before (runs_in runs) r.parent) (r.last ∷ []), short r.parent refl)
+    where
+      r : Run
+      r = get_or runs k no_run
 
-  shorter : (n at : ℕ) → at < n → at < x.count → length (get_or (runs_in x) at []) ≤ suc at
-  shorter zero at h g = absurd (omega arith)
-  shorter (suc n) at h g =
-      let p : ℕ = get_or x.parents at 0 in
-      ⊎_elim
-      (λ e. omega (arith, run_longer at g, ap length (run_past p (omega (arith, ltb-false p 128 e, sound_few s)))))
-      (λ e.
-      let b : p < at = s.earlier at g (ltb-true p 128 e) in
-      omega (arith, run_longer at g, shorter n p (omega arith) (omega arith)))
-      (dichotomy (ltb p 128))
+      short : (parent : Option ℕ) → r.parent ≡ parent → length (before (runs_in runs) parent) ≤ k
+      short None e = omega arith
+      short (Some p) e = let l : p < k = s.earlier k p g e in omega (arith, earlier p l)
 
-  pub run_short : (at : ℕ) → length (get_or (runs_in x) at []) ≤ 128
-  run_short at =
-      ⊎_elim
-      (λ e. omega (arith, ap length (run_past at (ltb-false at x.count e))))
-      (λ e. let h : at < x.count = ltb-true at x.count e in omega (arith, shorter (suc at) at (omega arith) h, sound_few s))
-      (dichotomy (ltb at x.count))
+  shorter : (n k : ℕ) → k < n → k < length runs → length (get_or (runs_in runs) k []) ≤ suc k
+  shorter zero k h g = absurd (omega arith)
+  shorter (suc n) k h g = no_longer k g (λ p l. shorter n p (omega arith) (omega arith))
+
+  pub run_short : (k : ℕ) → length (get_or (runs_in runs) k []) ≤ 128
+  run_short k = go (dec_lt k (length runs))
+    where
+      go : Dec (k < length runs) → length (get_or (runs_in runs) k []) ≤ 128
+      go (yes h) = omega (arith, shorter (suc k) k (omega arith) h, s.few)
+      go (no h) = omega (arith, ap length (run_past k (omega arith)))
 
 -- ---- a run written from its end
 
--- All but the first n states of l are written, and those n are `left`.
-pub record Writes (l left : List ℕ) (n : ℕ) (states : List ℕ) : Type 0 where
-  pub size : length states ≡ 128
-  pub count : n ≡ length left
-  pub front : (k : ℕ) → k < n → get_or l k 0 ≡ get_or left k 0
-  pub back : (k : ℕ) → n ≤ k → get_or states k 0 ≡ get_or l k 0
+-- The states that are still to be written, where this run is in hand.
+abbrev pub left_of : List Run → Option (Bor Run) → List ℕ
+left_of runs None = []
+left_of runs (Some r) = before (runs_in runs) r.now.parent ++ (r.now.last ∷ [])
 
-pub writes_none : (l : List ℕ) → Writes l l (length l) (replicate 128 0)
-writes_none l = record {
-  size = length-replicate {A = ℕ} 128 0;
-  count = refl;
-  front = λ k h. refl;
-  back = λ k h. get_d_repeat 128 k 0 ∙ sym (get_or-eq_default l 0 h);
-}
+pub left_at : {runs : List Run} → Chained runs → (k : ℕ) (r : Option (Bor Run)) → IsItemAt runs k r → left_of runs r ≡ get_or (runs_in runs) k []
+left_at s k None f = sym (run_past s k f.3)
+left_at s k (Some r) f = rw (f.4 (omega arith) no_run) (sym (chained_run s k f.3.0))
 
-pub writes_more : {l left : List ℕ} {n : ℕ} {states : List ℕ} → Writes l left n states → n ≤ 128
-    → (rest : List ℕ) (v : ℕ) → left ≡ rest ++ (v ∷ []) → Writes l rest (n - 1) (set states (n - 1) v)
-writes_more {l} {left} {n} {states} w short rest v e = record {
-  size = length-set states (n - 1) v ∙ w.size;
-  count = omega (arith, more);
-  front = λ k h. w.front k (omega arith) ∙ ap (λ r. get_or r k 0) e ∙ get_or-append rest (v ∷ []) 0 k (omega (arith, more));
-  back = λ k h. ⊎_elim (λ q. rw (← q) here) (λ g. get_or-set_other states (n - 1) k v 0 (λ q. omega arith) ∙ w.back k (omega arith)) (eq-or-lt_of_le h);
-}
-  where
-    more : n ≡ length rest + 1
-    more = w.count ∙ ap length e ∙ length-append rest (v ∷ [])
+pub left_before : {runs : List Run} → Chained runs → (parent : Option ℕ) (r : Option (Bor Run)) → MatchOption parent (r ≡ None) (λ p. IsItemAt runs p r)
+    → left_of runs r ≡ before (runs_in runs) parent
+unfolding before
+left_before s None r e = rw e refl
+left_before s (Some p) r f = left_at s p r f
 
-    here : get_or (set states (n - 1) v) (n - 1) 0 ≡ get_or l (n - 1) 0
-    here =
-        get_or-set_same states (n - 1) v 0 (omega (arith, more, w.size))
-        ∙ sym (w.front (n - 1) (omega (arith, more)) ∙ ap (λ r. get_or r (n - 1) 0) e ∙ get_or_at rest v [] 0 (n - 1) (omega (arith, more)))
+-- The states of l behind those that are left are written, from place `from` on.
+pub record Writes (l left : List ℕ) (from : ℕ) (back : List ℕ) : Type 0 where
+  pub size : length back ≡ 128
+  pub within : from ≤ 128
+  pub written : left ++ drop from back ≡ l
 
-get_d_padded : (l : List ℕ) (n k : ℕ) → get_or (l ++ replicate n 0) k 0 ≡ get_or l k 0
-get_d_padded [] n k = get_d_repeat n k 0
-get_d_padded (s ∷ l) n zero = refl
-get_d_padded (s ∷ l) n (suc k) = get_d_padded l n k
+pub writes_none : {l left : List ℕ} → left ≡ l → (back : List ℕ) → length back ≡ 128 → Writes l left 128 back
+writes_none {l} {left} e back size = record { size = size; within = omega arith; written = rw (drop_all 128 back (omega arith)) (append-nil left ∙ e) }
 
-pub writes_all : {l left : List ℕ} {n : ℕ} {states : List ℕ} → Writes l left n states → left ≡ [] → length l ≤ 128
-    → ◌≡◌ {A = Trace} (record { length = length l; states = states }) (trace_with l)
-unfolding trace_with
-writes_all {l} {left} {n} {states} w none short = ap (λ z. record { length = length l; states = z }) whole
-  where
-    pad : List ℕ
-    pad = replicate (128 - length l) 0
+module _ (runs : List Run) {l : List ℕ} (short : length l ≤ 128) {next : Option (Bor Run)} {from : ℕ} {back : List ℕ} (w : Writes l (left_of runs next) from back) where
+  module _ {r : Bor Run} (e : next ≡ Some r) where
+    whole : (before (runs_in runs) r.now.parent ++ (r.now.last ∷ [])) ++ drop from back ≡ l
+    whole = rw e at w.written
 
-    whole : states ≡ l ++ pad
-    whole =
-        ext_get_or 0 states (l ++ pad) (omega (arith, w.size, length-append l pad, length-replicate {A = ℕ} (128 - length l) 0))
-        (λ k h. w.back k (omega (arith, w.count, ap length none)) ∙ sym (get_d_padded l (128 - length l) k))
+    pub writes_room : 0 < from
+    writes_room =
+        omega (
+          arith,
+          short,
+          w.size,
+          ap length whole,
+          length-append (before (runs_in runs) r.now.parent ++ (r.now.last ∷ [])) (drop from back),
+          length-append (before (runs_in runs) r.now.parent) (r.now.last ∷ []),
+          length-drop from back,
+        )
+
+    pub writes_more : (after : Option (Bor Run)) → left_of runs after ≡ before (runs_in runs) r.now.parent
+        → Writes l (left_of runs after) (from - 1) (set back (from - 1) r.now.last)
+    writes_more after f = record {
+      size = length-set back (from - 1) r.now.last ∙ w.size;
+      within = omega (arith, w.within);
+      written =
+          rw (f, drop-set back (from - 1) r.now.last (omega (arith, w.size, w.within, writes_room)))
+          (let one : from - 1 + 1 ≡ from = omega (arith, writes_room) in rw one (sym (append_assoc (before (runs_in runs) r.now.parent) (r.now.last ∷ []) (drop from back)) ∙ whole));
+    }
+
+  pub writes_all : next ≡ None → (copied rest : List ℕ) → copied ≡ take (128 - from) (drop from back) → rest ≡ drop (128 - from) (replicate 128 0)
+      → ◌≡◌ {A = Trace} (record { length = 128 - from; states = copied ++ rest }) (trace_with l)
+  unfolding trace_with
+  writes_all e copied rest f g =
+      ap₂ (λ n s. record { length = n; states = s }) count (ap₂ ◌++◌ (f ∙ take_all (128 - from) (drop from back) (omega (arith, size)) ∙ whole) (g ∙ drop-replicate (128 - from) 128 0 ∙ ap (λ n. replicate (128 - n) 0) count))
+    where
+      whole : drop from back ≡ l
+      whole = rw e at w.written
+
+      size : length (drop from back) ≡ 128 - from
+      size = length-drop from back ∙ ap (λ n. n - from) w.size
+
+      count : 128 - from ≡ length l
+      count = sym size ∙ ap length whole

@@ -1,27 +1,33 @@
--- How arrays hold the runs that a search has found. Assumes nothing: these are definitions.
-use Rattle.std.specs.Prelude.{ℕ, zero, suc, ◌<◌, ◌≡◌, false, List, [], ◌∷◌, ◌++◌, length, get_or}
-use Rattle.traces.specs.declared.runs.Runs.{Runs}
-use Rattle.systems.specs.Count.{count}
-use Rattle.traces.specs.Marked.{is_marked}
+-- How a list holds the runs that a search has found. Assumes nothing: these are definitions.
+use Rattle.std.specs.Prelude.{ℕ, zero, suc, ◌≤◌, ◌<◌, ◌≡◌, List, [], ◌∷◌, ◌++◌, Option, None, Some, length, get_or}
+use Rattle.std.specs.List.{All}
+use Rattle.traces.specs.declared.runs.Run.{Run}
 
--- The first n runs: each is the run at its parent's place, which is none where there is no such place, and one state more.
-unfoldable pub runs_to : List ℕ → List ℕ → ℕ → List (List ℕ)
-runs_to order parents zero = []
-runs_to order parents (suc n) =
-    let q = runs_to order parents n in
-    q ++ ((get_or q (get_or parents n 0) [] ++ (get_or order n 0 ∷ [])) ∷ [])
+-- What stands where no run is.
+abbrev pub no_run : Run
+no_run = record { last = 0; parent = None }
+
+-- The run at the parent's place, or none.
+unfoldable pub before : List (List ℕ) → Option ℕ → List ℕ
+before q None = []
+before q (Some p) = get_or q p []
+
+-- The first n runs: each is the one at its parent's place, or none, and one state more.
+unfoldable pub runs_to : List Run → ℕ → List (List ℕ)
+unfolding before
+runs_to runs zero = []
+runs_to runs (suc n) =
+    let q = runs_to runs n in
+    let r = get_or runs n no_run in
+    q ++ ((before q r.parent ++ (r.last ∷ [])) ∷ [])
 
 -- All of them.
-unfoldable pub runs_in : Runs → List (List ℕ)
+unfoldable pub runs_in : List Run → List (List ℕ)
 unfolding runs_to
-runs_in x = runs_to x.order x.parents x.count
+runs_in runs = runs_to runs (length runs)
 
--- The marks are those of the runs, the count is how many there are, and a run extends one that was found earlier, or none.
-pub record Sound (x : Runs) : Type 0 where
-  pub marks : length x.marks ≡ 128
-  pub order : length x.order ≡ 128
-  pub parents : length x.parents ≡ 128
-  pub marked : (s : ℕ) → get_or x.marks s false ≡ is_marked (runs_in x) s
-  pub counted : x.count ≡ count 128 (λ s. get_or x.marks s false)
-  pub states : (k : ℕ) → k < x.count → get_or x.order k 0 < 128
-  pub earlier : (k : ℕ) → k < x.count → get_or x.parents k 0 < 128 → get_or x.parents k 0 < k
+-- There are at most 128, each ends in a state below 128, and each extends one that was found earlier, or none.
+pub record Chained (runs : List Run) : Type 0 where
+  pub few : length runs ≤ 128
+  pub states : All (λ run. run.last < 128) runs
+  pub earlier : (k p : ℕ) → k < length runs → (get_or runs k no_run).parent ≡ Some p → p < k

@@ -1,10 +1,11 @@
 -- How the rows of the reached states are walked: what each mark says, a loop that passes over the marks, and the verdict once a reached state
 -- is bad or no row is left. From the laws of walks and the meaning of the verdict. Assumes nothing.
-use Prim.Native.Nat.{ℕ, ◌+◌, ◌-◌, ◌*◌, ◌%◌, ◌≤◌, ◌<◌}
+use Prim.Native.Nat.{ℕ, ◌+◌, ◌-◌, ◌*◌, ◌≤◌, ◌<◌}
 use mathlib.Core.Path.{◌≡◌, refl, sym, ap, subst, ◌∙◌}
 use mathlib.Core.Logic.{⊎_elim}
 use mathlib.Core.Bool.{Bool, true, false, not, ◌&&◌, ◌||◌, or-false, and-eq-true_iff, true≢false}
 use mathlib.Core.List.{List}
+use Rattle.std.specs.Prelude.{Option, Some, None, MatchOption}
 use mathlib.Mathlib.Data.Bool.Basic.{or_inl, or_inr, eq-false_of_not-eq-true}
 use native.Mathlib.Decide.{ℕ_discrete}
 use native.Mathlib.Omega.{arith}
@@ -24,9 +25,8 @@ use Rattle.systems.specs.Laws.Walks.{walk_last, reached_start, reached_step, rea
 use Rattle.systems.specs.Verdict.{holds}
 use Rattle.systems.specs.Laws.Holds.{holds_iff}
 use Rattle.systems.specs.declared.tables.Tables.{Tables}
-use Rattle.sets.specs.Next.{NextFrom, NextAny}
 use Rattle.systems.specs.ByTables.{mark_at, step_by, start_by, system_by, judge_by}
-use Rattle.verdicts.specs.Marks.{mark_of, has_bits, any_with, is_open, FirstMarks, RowMarked, RowWalked}
+use Rattle.verdicts.specs.Marks.{mark_of, has_bits, any_with, is_open, IsOpen, NoneOpen, FirstMarks, RowMarked, RowWalked}
 
 -- ---- one mark
 
@@ -38,7 +38,7 @@ unfoldable is_walked : ℕ → Bool
 unfolding has_bits
 is_walked = has_bits 2
 
-pub mark_first : (r b : Bool) → bit_or (bool_byte r) (bool_byte b * 4 % 65536) ≡ mark_of r false b
+pub mark_first : (r b : Bool) → bit_or (1 * bool_byte r) (4 * bool_byte b) ≡ mark_of r false b
 unfolding mark_of
 mark_first true true = refl
 mark_first true false = refl
@@ -95,9 +95,6 @@ pub record Passed (f : ℕ → ℕ) (before after : List ℕ) (t : ℕ) : Type 0
   pub done : (k : ℕ) → k < t → get_or after k 0 ≡ f k
   pub kept : (k : ℕ) → t ≤ k → get_or after k 0 ≡ get_or before k 0
 
-pub passed_none : (f : ℕ → ℕ) (before : List ℕ) → Passed f before before 0
-passed_none f before = record { size = refl; done = λ k h. absurd (omega arith); kept = λ k h. refl }
-
 module _ {f : ℕ → ℕ} {before after : List ℕ} {t : ℕ} (l : Passed f before after t) where
   pub passed_next : (v : ℕ) → t < length before → v ≡ f t → Passed f before (set after t v) (t + 1)
   passed_next v h e = record {
@@ -123,13 +120,14 @@ row_walked masks states rules s {before} {after} h r = record {
       (get_or-take (128 * s + states - 128 * s) (drop (128 * s) masks) t 0 (omega arith) ∙ get_or-drop (128 * s) masks t 0);
 }
 
--- The first number from s on that passes, if there is one; else the first of all.
-module _ {p : ℕ → Bool} {n t : ℕ} where
-  pub next_later : {s : ℕ} → NextFrom p s n t → t < n → NextAny p n t
-  next_later x h = record { within = x.within; passes = x.passes; none = λ g. absurd (omega arith) }
-
-  pub next_first : NextFrom p 0 n t → NextAny p n t
-  next_first x = record { within = x.within; passes = x.passes; none = λ g k l. x.passed k (omega arith) (omega arith) }
+-- From s on, a state more is not open.
+pub closed_next : (marks : List ℕ) (s t : ℕ) → ((k : ℕ) → s ≤ k → k < t → is_open (get_or marks k 0) ≡ false) → is_open (get_or marks t 0) ≡ false
+    → (k : ℕ) → s ≤ k → k < t + 1 → is_open (get_or marks k 0) ≡ false
+closed_next marks s t closed here k h g = at (ℕ_discrete k t)
+  where
+    at : Dec (k ≡ t) → is_open (get_or marks k 0) ≡ false
+    at (yes i) = rw i here
+    at (no i) = closed k h (omega arith)
 
 -- ---- the states of a system
 
@@ -138,7 +136,7 @@ module _ {p : ℕ → Bool} {n t : ℕ} where
 pub record Spread (M : System) (marks : List ℕ) : Type 0 where
   pub reached : ℕ → Bool
   pub walked : ℕ → Bool
-  pub size : length marks ≡ 128
+  pub size : length marks ≡ M.size
   pub at : (s : ℕ) → s < M.size → get_or marks s 0 ≡ mark_of (reached s) (walked s) (M.bad s)
   pub runs : (s : ℕ) → s < M.size → reached s ≡ true → Reached M s
   pub begun : (s : ℕ) → s < M.size → M.start s ≡ true → reached s ≡ true
@@ -166,22 +164,23 @@ module _ {M : System} {marks : List ℕ} (x : Spread M marks) where
       (r, not-true (x.walked s) w)
 
   -- A reached state is bad;
-  spread_hit : any_with 5 M.size marks ≡ true → holds M ≡ false
+  spread_hit : any_with 5 marks ≡ true → holds M ≡ false
   unfolding any_with
   spread_hit e =
       let p : ℕ → Bool = λ t. is_hit (get_or marks t 0) in
-      let s : ℕ = least M.size p in
-      let (h, f) = any_elim M.size p e in
+      let s : ℕ = least (length marks) p in
+      let (l, f) = any_elim (length marks) p e in
+      let h : s < M.size = omega (arith, x.size) in
       let (r, b) = (and-eq-true_iff (x.reached s) (M.bad s)).0 (sym (bits_say _ (x.walked s) _).hit ∙ ap is_hit (sym (x.at s h)) ∙ f) in
       eq-false_of_not-eq-true (λ t. true≢false (sym b ∙ ((holds_iff M).0 t).good s (x.runs s h r)))
 
   -- if none is, the next one is not;
-  spread_unhit : any_with 5 M.size marks ≡ false → (s : ℕ) → s < M.size → x.reached s ≡ true → M.bad s ≡ false
+  spread_unhit : any_with 5 marks ≡ false → (s : ℕ) → s < M.size → x.reached s ≡ true → M.bad s ≡ false
   unfolding any_with
   spread_unhit none s h e =
       other (x.reached s) (M.bad s)
       (sym (bits_say _ (x.walked s) _).hit ∙ ap is_hit (sym (x.at s h))
-      ∙ eq-false_of_not-eq-true (λ f. true≢false (sym (any_intro M.size (λ t. is_hit (get_or marks t 0)) s h f) ∙ none)))
+      ∙ eq-false_of_not-eq-true (λ f. true≢false (sym (any_intro (length marks) (λ t. is_hit (get_or marks t 0)) s (omega (arith, x.size)) f) ∙ none)))
       e
 
   -- and every row has been walked.
@@ -218,8 +217,7 @@ module _ (masks : List ℕ) (tables : Tables) (rules s : ℕ) {before after : Li
     (x : Spread (system_by masks tables rules) before)
     (h : s < tables.states)
     (left : is_open (get_or before s 0) ≡ true)
-    (unhit : any_with 5 tables.states before ≡ false)
-    (few : tables.states ≤ 128)
+    (unhit : any_with 5 before ≡ false)
     (w : RowWalked masks tables.states rules s before after)
   where
     spread_next : Spread (system_by masks tables rules) after
@@ -274,7 +272,7 @@ module _ (masks : List ℕ) (tables : Tables) (rules s : ℕ) {before after : Li
 
 -- No state is bad.
 pub none_bad : (masks : List ℕ) (tables : Tables) (rules : ℕ) {marks : List ℕ} → FirstMarks masks tables rules marks
-    → any_with 4 tables.states marks ≡ false → judge_by masks tables rules ≡ true
+    → any_with 4 marks ≡ false → judge_by masks tables rules ≡ true
 unfolding any_with judge_by system_by
 none_bad masks tables rules {marks} f none = (holds_iff M).1 (record { good = λ s r. good s (subst (λ t. t < M.size) r.ends (walk_last r.path r.run)) })
   where
@@ -285,29 +283,33 @@ none_bad masks tables rules {marks} f none = (holds_iff M).1 (record { good = λ
     good s h =
         sym (bits_say (start_by masks tables rules s) false (mark_at tables.bad s)).bad
         ∙ ap (has_bits 4) (sym (f.at s h))
-        ∙ eq-false_of_not-eq-true (λ e. true≢false (sym (any_intro tables.states (λ t. has_bits 4 (get_or marks t 0)) s h e) ∙ none))
+        ∙ eq-false_of_not-eq-true (λ e. true≢false (sym (any_intro (length marks) (λ t. has_bits 4 (get_or marks t 0)) s (omega (arith, f.size)) e) ∙ none))
 
--- The marks are spread, and s is the next state to walk from, if there is one.
-pub record Judging (masks : List ℕ) (tables : Tables) (rules : ℕ) (marks : List ℕ) (s : ℕ) : Type 0 where
+-- The marks are spread, and the next state is one to walk from, if there is one.
+pub record Judging (masks : List ℕ) (tables : Tables) (rules : ℕ) (marks : List ℕ) (found : Option ℕ) : Type 0 where
   pub spread : Spread (system_by masks tables rules) marks
-  pub next : NextAny (λ t. is_open (get_or marks t 0)) tables.states s
+  pub next : MatchOption found (NoneOpen marks 0) (IsOpen marks)
 
-module _ {masks : List ℕ} {tables : Tables} {rules s : ℕ} {before : List ℕ} (j : Judging masks tables rules before s) where
+module _ {masks : List ℕ} {tables : Tables} {rules : ℕ} {before : List ℕ} where
   -- A reached state is bad.
-  pub judging_hit : any_with 5 tables.states before ≡ true → judge_by masks tables rules ≡ false
+  pub judging_hit : {found : Option ℕ} → Judging masks tables rules before found → any_with 5 before ≡ true → judge_by masks tables rules ≡ false
   unfolding judge_by system_by
-  judging_hit e = spread_hit j.spread e
+  judging_hit j e = spread_hit j.spread e
 
   -- No row is left.
-  pub judging_ends : tables.states ≤ s → judge_by masks tables rules ≡ true
+  pub judging_ends : Judging masks tables rules before None → judge_by masks tables rules ≡ true
   unfolding judge_by system_by
-  judging_ends h = spread_all j.spread (j.next.none h)
+  judging_ends j = spread_all j.spread (λ k h. j.next.passed k (omega arith) (omega (arith, j.spread.size)))
 
   -- The row of state s is walked.
-  module _ (h : s < tables.states) (unhit : any_with 5 tables.states before ≡ false) (few : tables.states ≤ 128)
+  module _ {s : ℕ} (j : Judging masks tables rules before (Some s)) (unhit : any_with 5 before ≡ false)
       {after : List ℕ} (w : RowWalked masks tables.states rules s before after) where
-    pub judging_next : {t : ℕ} → NextAny (λ t. is_open (get_or after t 0)) tables.states t → Judging masks tables rules after t
-    judging_next n = record { spread = spread_next masks tables rules s j.spread h (j.next.passes h) unhit few w; next = n }
+    pub judging_state : s < tables.states
+    unfolding system_by
+    judging_state = omega (arith, j.next.within, j.spread.size)
+
+    pub judging_next : {found : Option ℕ} → MatchOption found (NoneOpen after 0) (IsOpen after) → Judging masks tables rules after found
+    judging_next n = record { spread = spread_next masks tables rules s j.spread judging_state j.next.passes unhit w; next = n }
 
     pub judging_less : rows_left tables.states after < rows_left tables.states before
-    judging_less = spread_less masks tables rules s j.spread h (j.next.passes h) unhit few w
+    judging_less = spread_less masks tables rules s j.spread judging_state j.next.passes unhit w

@@ -1,6 +1,6 @@
 -- What is known of the states while a set is judged, as numbers: 1 for a reached state, 2 for one whose row has been walked, 4 for a bad one.
 -- What the code that walks the rows ensures of them. Assumes nothing: these are definitions.
-use Rattle.std.specs.Prelude.{ℕ, ◌+◌, ◌*◌, ◌≤◌, ◌<◌, ◌≡◌, Bool, false, List, eqb, length, get_or, set}
+use Rattle.std.specs.Prelude.{ℕ, ◌+◌, ◌*◌, ◌≤◌, ◌<◌, ◌≡◌, Bool, true, false, List, eqb, length, get_or, set}
 use mir.Val.{bool_byte}
 use Rattle.std.specs.Int.Bits.{bit_and, bit_or}
 use Rattle.systems.specs.Least.{any}
@@ -16,30 +16,38 @@ unfoldable pub has_bits : (bits : ℕ) → ℕ → Bool
 has_bits bits m = eqb (bit_and m bits) bits
 
 -- Some state has them in its mark.
-unfoldable pub any_with : (bits states : ℕ) → List ℕ → Bool
+unfoldable pub any_with : (bits : ℕ) → List ℕ → Bool
 unfolding any has_bits
-any_with bits states marks = any states (λ t. has_bits bits (get_or marks t 0))
+any_with bits marks = any (length marks) (λ t. has_bits bits (get_or marks t 0))
 
 -- It is reached, and its row has not been walked.
 unfoldable pub is_open : ℕ → Bool
 is_open m = eqb (bit_and m 3) 1
 
+-- State t is such a state.
+pub record IsOpen (marks : List ℕ) (t : ℕ) : Type 0 where
+  pub within : t < length marks
+  pub passes : is_open (get_or marks t 0) ≡ true
+
+-- It is the first such state from s on.
+pub record IsNextOpen (marks : List ℕ) (s t : ℕ) : Type 0 where
+  pub after : s ≤ t
+  pub here : IsOpen marks t
+  pub passed : (k : ℕ) → s ≤ k → k < t → is_open (get_or marks k 0) ≡ false
+
+-- No state from s on is.
+pub record NoneOpen (marks : List ℕ) (s : ℕ) : Type 0 where
+  pub passed : (k : ℕ) → s ≤ k → k < length marks → is_open (get_or marks k 0) ≡ false
+
 -- The start states of the set are reached.
 pub record FirstMarks (masks : List ℕ) (t : Tables) (rules : ℕ) (marks : List ℕ) : Type 0 where
-  pub size : length marks ≡ 128
+  pub size : length marks ≡ t.states
   pub at : (s : ℕ) → s < t.states → get_or marks s 0 ≡ mark_of (start_by masks t rules s) false (mark_at t.bad s)
 
 -- Marks of states with a step of the set are added, by a row of masks.
 pub record RowMarked (row : List ℕ) (rules : ℕ) (before after : List ℕ) : Type 0 where
   pub size : length after ≡ length before
   pub at : (t : ℕ) → t < length row → get_or after t 0 ≡ bit_or (get_or before t 0) (bool_byte (eqb (bit_and (get_or row t 0) rules) rules))
-
--- The row of state s is a part of the masks, and there is a mark for each state of it.
-pub record Walkable (masks : List ℕ) (states s : ℕ) (marks : List ℕ) : Type 0 where
-  pub few : states ≤ 128
-  pub room : 128 * states ≤ length masks
-  pub state : s < states
-  pub marked : length marks ≡ 128
 
 -- The row of state s has been walked.
 pub record RowWalked (masks : List ℕ) (states rules s : ℕ) (before after : List ℕ) : Type 0 where

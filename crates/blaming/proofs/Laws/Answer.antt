@@ -1,21 +1,18 @@
 -- The laws of the answer: the call is refused by the first number that fits, and an accepted one answers what the log says of the model.
 -- From the definitions in `Answer`, case by case. Assumes nothing.
-use Rattle.std.specs.Prelude.{ℕ, ◌^◌, ◌<◌, ◌≤◌, ◌≡◌, Bool, true, false, cond, List, ltb, length, get_or}
+use Rattle.std.specs.Prelude.{ℕ, ◌^◌, ◌<◌, ◌≡◌, true, false, List, get_or}
 use Rattle.std.proofs.Math.Path.{sym}
-use Rattle.std.proofs.Common.{arith, lt-ltb, le-ltb, pow_mono}
+use Rattle.std.proofs.Common.{arith, pow_mono}
 use Rattle.sets.specs.Laws.Cores.{false_if}
 use Rattle.sets.specs.Laws.Gathered.{set_of_lt}
-use Rattle.models.specs.declared.model.Outcome.{Outcome}
-use Rattle.models.specs.declared.model.Outcome.TheVariants.{Accepted, Refused}
+use Rattle.refusals.specs.Answers.{Accepted, Given, Outcome, Refused, RefusedBy}
 use Rattle.models.specs.Written.{model_in}
-use Rattle.logs.specs.declared.blame.Blamed.{Blamed}
 use Rattle.logs.specs.Log.{IsLog, is_log, LogSays, blamed_set, blame_of}
 use Rattle.logs.proofs.Laws.Log.{is_log_iff, log_says}
 use Rattle.semantics.specs.Meaning.{init_met, start_met, step_met, bad_of}
 use Rattle.calls.specs.Answers.{rules_in, states_in, text_outcome}
 use Rattle.calls.proofs.Laws.Answers.{rules_most, given_accepted, given_refused}
-use Rattle.blaming.specs.declared.answer.BlameAnswer.TheVariants.{Refused as BlameRefused, BreachAt, NoBreach}
-use Rattle.blaming.specs.Answer.{blame_in, blame_outcome, blamed_answer, blame_answer}
+use Rattle.blaming.specs.Answer.{blame_in, blame_outcome, blame_answer}
 
 -- The outcome of the call: refused by the text's number, by 14, by 15, or accepted, the first of these that fits. Demand 1 rests on this for the order of
 -- the numbers.
@@ -48,38 +45,20 @@ blamed_below text log = set_of_lt (rules_in text) _
 pub blame_fits : (text log : List ℕ) → (blame_in text log).set < 65536
 blame_fits text log = omega (arith, blamed_below text log, pow_mono (rules_most text))
 
-pub blamed_told : (n : ℕ) (b : Blamed) (number line : ℕ) → ¬ (blamed_answer n b ≡ BlameRefused number line)
-unfolding blamed_answer
-blamed_told n b number line = go (ltb b.place n)
-  where
-    go : (c : Bool) → cond c (BreachAt b.set b.place) (NoBreach b.set b.place) ≡ BlameRefused number line → ⊥
-    go true q = let z : ◌≡◌ {A = ℕ} 0 1 = cc in omega arith
-    go false q = let z : ◌≡◌ {A = ℕ} 0 1 = cc in omega arith
-
--- A place of the log is that of a breach, and its length says that there is none.
-module _ (n : ℕ) (b : Blamed) where
-  pub breach_told : b.place < n → BreachAt b.set b.place ≡ blamed_answer n b
-  unfolding blamed_answer
-  breach_told h = rw (lt-ltb b.place n h)
-
-  pub none_told : n ≤ b.place → NoBreach b.set b.place ≡ blamed_answer n b
-  unfolding blamed_answer
-  none_told h = rw (le-ltb b.place n h)
-
 module _ (text log : List ℕ) where
-  pub blame_by_text : {number line : ℕ} → text_outcome text ≡ Refused number line → BlameRefused number line ≡ blame_answer text log
+  pub blame_by_text : {number line : ℕ} → text_outcome text ≡ Refused number line → RefusedBy number line ≡ blame_answer text log
   unfolding blame_answer
-  blame_by_text e = sym (given_refused BlameRefused _ ((blame_numbers text log).by_text _ _ e))
+  blame_by_text e = sym (given_refused _ ((blame_numbers text log).by_text _ _ e))
 
   module _ (model : text_outcome text ≡ Accepted) where
-    pub blame_by_log : ¬ IsLog (states_in text) log → BlameRefused 14 0 ≡ blame_answer text log
+    pub blame_by_log : ¬ IsLog (states_in text) log → RefusedBy 14 0 ≡ blame_answer text log
     unfolding blame_answer
-    blame_by_log n = sym (given_refused BlameRefused _ ((blame_numbers text log).by_log model n))
+    blame_by_log n = sym (given_refused _ ((blame_numbers text log).by_log model n))
 
-    pub blame_by_init : IsLog (states_in text) log → init_met (model_in text) (get_or log 0 0) ≡ false → BlameRefused 15 0 ≡ blame_answer text log
+    pub blame_by_init : IsLog (states_in text) log → init_met (model_in text) (get_or log 0 0) ≡ false → RefusedBy 15 0 ≡ blame_answer text log
     unfolding blame_answer
-    blame_by_init l i = sym (given_refused BlameRefused _ ((blame_numbers text log).by_init model l i))
+    blame_by_init l i = sym (given_refused _ ((blame_numbers text log).by_init model l i))
 
-    pub blame_given : IsLog (states_in text) log → init_met (model_in text) (get_or log 0 0) ≡ true → blamed_answer (length log) (blame_in text log) ≡ blame_answer text log
+    pub blame_given : IsLog (states_in text) log → init_met (model_in text) (get_or log 0 0) ≡ true → Given (blame_in text log) ≡ blame_answer text log
     unfolding blame_answer
-    blame_given l i = sym (given_accepted BlameRefused _ ((blame_numbers text log).by_none model l i))
+    blame_given l i = sym (given_accepted _ ((blame_numbers text log).by_none model l i))

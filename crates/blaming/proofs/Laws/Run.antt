@@ -1,6 +1,6 @@
 -- The log of an accepted call is, up to the first state that breaks a property, a run of the full set without the blamed rules, and ends in a bad state;
 -- so that set is broken. From what a log says, and the start states and steps of a model's sets. Assumes nothing.
-use Rattle.std.specs.Prelude.{ℕ, suc, ◌-◌, ◌<◌, ◌≡◌, true, false, List, length, get_or, take}
+use Rattle.std.specs.Prelude.{ℕ, suc, ◌-◌, ◌<◌, ◌≡◌, true, false, List, Some, length, get_or, take}
 use mathlib.Mathlib.Data.Bool.Basic.{eq-true_of_not-eq-false}
 use Rattle.sets.specs.Bit.{has, full}
 use Rattle.sets.specs.Laws.Bit.{has_rest}
@@ -40,11 +40,12 @@ module _ (text log : List ℕ) (l : IsLog (states_in text) log) (init : init_met
       (λ i h e. eq-true_of_not-eq-false (λ f. not_blamed i e (says.at_step i k h g f)))
 
   -- The log up to the breach is a run, ending in a bad state, of the full set without the blamed rules.
-  pub log_breach : (blame_in text log).place < length log → Breach (system_in text kept) (take (suc (blame_in text log).place) log)
-  unfolding system_in system_of states_in
-  log_breach h = breach_to (system_in text kept) log l starts steps (blame_in text log).place h (says.breaks h)
+  module _ {place : ℕ} (breach : (blame_in text log).breach ≡ Some place) where
+    pub log_breach : Breach (system_in text kept) (take (suc place) log)
+    unfolding system_in system_of states_in
+    log_breach = breach_to (system_in text kept) log l starts steps place (rw breach at says.within) (rw breach at says.breaks)
 
-  -- So that set is broken.
-  pub kept_broken : (blame_in text log).place < length log → judge_in text kept ≡ false
-  unfolding judge_in judge system_in
-  kept_broken h = breach_broken (log_breach h)
+    -- So that set is broken.
+    pub kept_broken : judge_in text kept ≡ false
+    unfolding judge_in judge system_in
+    kept_broken = breach_broken log_breach

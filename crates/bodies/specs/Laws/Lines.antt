@@ -1,7 +1,7 @@
 -- What follows the first line of a text, in terms of the bytes before the first byte 10. From the definition of `after_line`, by the laws of bytes.
 -- Assumes nothing.
-use Rattle.std.specs.Prelude.{ℕ, suc, ◌≡◌, refl, Bool, true, false, cond, not, List, [], ◌∷◌, ◌++◌, eqb, length, drop}
-use Rattle.std.proofs.Common.{sym, ap, ◌∙◌, add-one}
+use Rattle.std.specs.Prelude.{ℕ, suc, ◌+◌, ◌≡◌, refl, Bool, true, false, cond, not, List, [], ◌∷◌, ◌++◌, eqb, length, drop}
+use Rattle.std.proofs.Common.{sym, ap, ◌∙◌, add-one, arith}
 use Rattle.std.proofs.Math.Seq.{drop-append-add}
 use Rattle.lines.specs.declared.classes.Class.TheVariants.{InLine}
 use Rattle.lines.specs.Bytes.{belongs, prefix}
@@ -14,9 +14,9 @@ unfolding after_line line_length belongs
 line_dropped [] = refl
 line_dropped (b ∷ s) = go (eqb b 10) (line_dropped s)
   where
-    go : (t : Bool) → after_line s ≡ drop (suc (line_length s)) s → cond t s (after_line s) ≡ drop (cond (not t) (suc (prefix InLine s)) 0) s
+    go : (t : Bool) → after_line s ≡ drop (suc (line_length s)) s → cond t s (after_line s) ≡ drop (cond (not t) (1 + prefix InLine s) 0) s
     go true e = refl
-    go false e = e
+    go false e = let on : suc (line_length s) ≡ 1 + prefix InLine s = omega arith in e ∙ ap (λ n. drop n s) on
 
 -- what follows a line with its byte 10
 pub line_seam : (l rest : List ℕ) → all InLine l ≡ true → after_line (l ++ 10 ∷ rest) ≡ rest

@@ -1,99 +1,158 @@
 -- The ranges of what is read behind `init`: a refusal has a number of 1 to 8 and the line of a property or a rule, there are one to four properties, and
 -- each line begins within the text. From the definitions of `Body`, `Properties` and `Places`, by the ranges of single lines.
-use Rattle.std.specs.Prelude.{ℕ, zero, suc, ◌+◌, ◌≤◌, List, eqb, length, drop}
-use Rattle.std.proofs.Common.{arith, length-drop}
+use Rattle.std.specs.Prelude.{ℕ, zero, suc, ◌+◌, ◌≤◌, ◌<◌, ◌≡◌, refl, Bool, List, length, take, drop, Result, Ok, Err, IfOk}
+use Rattle.std.proofs.Common.{sym, ap, arith, subst, length-drop}
 use Rattle.sets.specs.Laws.Choice.{by_test}
-use Rattle.lines.specs.declared.line.Line.{Line}
-use Rattle.rule_lines.specs.declared.names.RuleLine.{RuleLine}
-use Rattle.lines.specs.Lines.{starts_with, prop_key}
-use Rattle.rule_lines.specs.RuleLines.{is_taken}
+use Rattle.rule_lines.specs.declared.names.RuleParts.{RuleParts}
+use Rattle.refusals.specs.declared.refusal.Reason.{Reason}
+use Rattle.refusals.specs.Answers.{Answer, RefusedBy, Given}
+use Rattle.lines.specs.declared.line.Said.{Said}
+use Rattle.lines.specs.Lines.{Line, line_of, starts_with, prop_key, count_line, state_line}
+use Rattle.rule_lines.specs.RuleLines.{is_taken, rule_line}
 use Rattle.lines.specs.Written.{Within}
-use Rattle.lines.proofs.Laws.Heard.{Heard, fault, said, state_heard}
-use Rattle.rule_lines.proofs.Laws.Heard.{RuleHeard, rule_fault, rule_said, rule_heard}
+use Rattle.lines.proofs.Laws.Heard.{Heard, fault, said, says_of, count_heard, state_heard}
+use Rattle.rule_lines.proofs.Laws.Heard.{RuleHeard, rule_fault, rule_said, rule_bytes, rule_heard}
 use Rattle.bodies.specs.declared.progress.LineStart.{LineStart}
+use Rattle.bodies.specs.declared.progress.LineRead.{LineRead}
 use Rattle.bodies.specs.declared.progress.Progress.{Progress}
-use Rattle.bodies.specs.Places.{Placed, Passes}
+use Rattle.bodies.specs.Places.{Placed, Passes, EndsWithin, PartDue, PartsDue}
 use Rattle.bodies.specs.Properties.{after_line, leading, property_count}
-use Rattle.bodies.specs.Body.{behind_line, none_read, propertied, next_property, properties_read, ruled, next_rule, rules_read}
+use Rattle.bodies.specs.Body.{behind_line, following, unless_refused, with_property, propertied, next_property, properties_read, with_rule, ruled, next_rule, rules_read}
+use Rattle.bodies.specs.Laws.Answered.{Answered, refused, given, IfGiven, given_of, one_given, answered_next, refused_at}
 
 -- ---- the places of the lines
 
-pub passes : {text : List ℕ} {p : LineStart} {bytes : ℕ} → Placed text p → Within 1 (length (drop p.at text)) bytes → Passes text p bytes
-passes {text} {p} {bytes} h w = record { within = omega (arith, w.at_least, w.at_most, length-drop p.at text); counted = h.counted }
+ends_within : {text : List ℕ} {p : LineStart} {bytes : ℕ} → Placed text p → Within 1 (length (drop p.at text)) bytes → EndsWithin text p bytes
+ends_within {text} {p} {bytes} h w = record { some = w.at_least; within = omega (arith, h.within, w.at_most, length-drop p.at text) }
+
+pub passes : {text : List ℕ} {p : LineStart} {bytes : ℕ} → Placed text p → EndsWithin text p bytes → Passes text p bytes
+passes h w = record { within = w.within; counted = h.counted }
 
 -- the place behind a line that ends within the text
-pub placed_behind : {text : List ℕ} {p : LineStart} {bytes : ℕ} → 1 ≤ bytes → Passes text p bytes → Placed text (behind_line p bytes)
+pub placed_behind : {text : List ℕ} {p : LineStart} {bytes : ℕ} → Placed text p → EndsWithin text p bytes → Placed text (behind_line p bytes)
 unfolding behind_line
-placed_behind a h = record { within = h.within; counted = omega (arith, h.counted) }
+placed_behind h w = record { within = w.within; counted = omega (arith, h.counted, w.some) }
+
+pub ruleset places = (passes, placed_behind)
+
+-- a line that is read ends within the text, whatever it says
+pub count_ends : (text key : List ℕ) (most : ℕ) (p : LineStart) (said : Result (Said ℕ) Reason) → Placed text p → line_of said ≡ count_line key most (drop p.at text)
+    → IfOk said (λ s. EndsWithin text p s.bytes)
+count_ends text key most p (Ok s) h q = ends_within h (says_of (count_heard key most (drop p.at text)) (sym q)).within
+count_ends text key most p (Err reason) h q = tt
+
+pub state_ends : (text key : List ℕ) (n : ℕ) (p : LineStart) (said : Result (Said ℕ) Reason) → Placed text p → line_of said ≡ state_line key n (drop p.at text)
+    → IfOk said (λ s. EndsWithin text p s.bytes)
+state_ends text key n p (Ok s) h q = ends_within h (says_of (state_heard key n (drop p.at text)) (sym q)).within
+state_ends text key n p (Err reason) h q = tt
+
+pub rule_ends : (text : List ℕ) (n : ℕ) (taken : List ℕ → Bool) (p : LineStart) (said : Result (Said RuleParts) Reason) → Placed text p
+    → line_of said ≡ rule_line n taken p.at (drop p.at text) → IfOk said (λ s. EndsWithin text p s.bytes)
+rule_ends text n taken p (Ok s) h q = ends_within h (rule_bytes (rule_heard n taken p.at (drop p.at text)) (sym q))
+rule_ends text n taken p (Err reason) h q = tt
+
+said_small : {s : List ℕ} {most : ℕ} (p : LineStart) (h : LineRead ℕ) {l : Line ℕ} → Heard s most l → following p l ≡ Given h → h.value ≤ most
+unfolding following
+said_small p h (fault number w) q = cc
+said_small p h (said w) q = omega (arith, w.small, ap (λ x. x.value) (one_given q))
+
+-- what a count line says is at most so much
+pub count_small : (text key : List ℕ) (most : ℕ) (p : LineStart) (h : LineRead ℕ) → following p (count_line key most (drop p.at text)) ≡ Given h → h.value ≤ most
+count_small text key most p h = said_small p h (count_heard key most (drop p.at text))
+
+-- an expression begins within the text, behind the key of its line
+pub state_begins : (text key : List ℕ) (n : ℕ) (p : LineStart) (h : LineRead ℕ) → following p (state_line key n (drop p.at text)) ≡ Given h → h.value ≤ length key
+state_begins text key n p h = said_small p h (state_heard key n (drop p.at text))
 
 -- ---- the property lines and the rule lines
 
--- After i of these lines, of which the first has the number `first`: no number or one of 1 to 8, and a line of the text.
-pub record PartRange (first i : ℕ) (r : Progress) : Type 0 where
-  pub number : r.number ≤ 8
-  pub least : first ≤ r.place.line
-  pub most : r.place.line ≤ first + i
+-- Of i of these lines, of which the first has the number `first`, one is refused by a number of 1 to 8.
+pub record PartRefusal (first i number line : ℕ) : Type 0 where
+  pub small : Within 1 8 number
+  pub least : first ≤ line
+  pub most : line < first + i
 
-range_more : {first i k : ℕ} {r : Progress} → i ≤ k → PartRange first i r → PartRange first k r
-range_more b h = record { number = h.number; least = h.least; most = omega (arith, h.most) }
+-- i of these lines are read, or one of them is refused.
+abbrev pub PartRange : ℕ → ℕ → Answer Progress → Type 0
+PartRange first i = Answered (PartRefusal first i) (λ r. r.place.line ≡ first + i)
 
-property_line : {first i most : ℕ} (j : ℕ) {r : Progress} {s : List ℕ} {l : Line} → PartRange first i r → Heard s most l → PartRange first (suc i) (propertied j r l)
-unfolding propertied
-property_line j h (fault number w) = record { number = w.at_most; least = h.least; most = omega (arith, h.most) }
-property_line j h (said w) = record { number = omega arith; least = omega (arith, h.least); most = omega (arith, h.most) }
+pub refusal_more : {first i k number line : ℕ} → i ≤ k → PartRefusal first i number line → PartRefusal first k number line
+refusal_more b h = record { small = h.small; least = h.least; most = omega (arith, h.most) }
 
-pub properties_read_lem : (text : List ℕ) (n : ℕ) (p : LineStart) (j : ℕ) → PartRange p.line j (properties_read text n p j)
-unfolding properties_read next_property none_read
-properties_read_lem text n p zero = record { number = omega arith; least = omega arith; most = omega arith }
-properties_read_lem text n p (suc j) =
-    let r = properties_read text n p j in
-    by_test (PartRange p.line (suc j)) (eqb r.number 0)
-    (λ _. property_line j (properties_read_lem text n p j) (state_heard prop_key n (drop r.place.at text)))
-    (λ _. range_more (omega arith) (properties_read_lem text n p j))
+property_line : {first i most : ℕ} (j : ℕ) (r : Progress) {s : List ℕ} {l : Line ℕ} → r.place.line ≡ first + i → Heard s most l → PartRange first (suc i) (propertied j r l)
+unfolding propertied following unless_refused with_property behind_line
+property_line j r h (fault number w) = refused (record { small = w; least = omega arith; most = omega arith })
+property_line j r h (said w) = given (omega arith)
 
-rule_line_lem : {first i : ℕ} (j : ℕ) {r : Progress} {s : List ℕ} {l : RuleLine} → PartRange first i r → RuleHeard s l → PartRange first (suc i) (ruled j r l)
-unfolding ruled
-rule_line_lem j h (rule_fault number w) = record { number = w.at_most; least = h.least; most = omega (arith, h.most) }
-rule_line_lem j h (rule_said w) = record { number = omega arith; least = omega (arith, h.least); most = omega (arith, h.most) }
+pub properties_read_lem : (text : List ℕ) (n : ℕ) (before : Progress) (j : ℕ) → PartRange before.place.line j (properties_read text n before j)
+unfolding properties_read next_property
+properties_read_lem text n before zero = given (omega arith)
+properties_read_lem text n before (suc j) =
+    answered_next (properties_read text n before j) (next_property text n j) (properties_read_lem text n before j) (λ _ _. refusal_more (omega arith)) λ r _ h.
+    property_line j r h (state_heard prop_key n (drop r.place.at text))
 
-pub rules_read_lem : (text : List ℕ) (n : ℕ) {first j : ℕ} {before : Progress} → PartRange first j before → (i : ℕ) → PartRange first (i + j) (rules_read text n before i)
+rule_line_lem : {first i : ℕ} (j : ℕ) (r : Progress) {s : List ℕ} {l : Line RuleParts} → r.place.line ≡ first + i → RuleHeard s l → PartRange first (suc i) (ruled j r l)
+unfolding ruled following unless_refused with_rule behind_line
+rule_line_lem j r h (rule_fault number w) = refused (record { small = w; least = omega arith; most = omega arith })
+rule_line_lem j r h (rule_said w) = given (omega arith)
+
+pub rules_read_lem : (text : List ℕ) (n : ℕ) {first : ℕ} (j : ℕ) (before : Progress) → before.place.line ≡ first + j → (i : ℕ) → PartRange first (i + j) (rules_read text n before i)
 unfolding rules_read next_rule
-rules_read_lem text n h zero = range_more (omega arith) h
-rules_read_lem text n {first} {j} {before} h (suc i) =
-    let r = rules_read text n before i in
-    by_test (PartRange first (suc i + j)) (eqb r.number 0)
-    (λ _. range_more (omega arith) (rule_line_lem i (rules_read_lem text n h i) (rule_heard n (is_taken text r.names r.steps i) r.place.at (drop r.place.at text))))
-    (λ _. range_more (omega arith) (rules_read_lem text n h i))
+rules_read_lem text n j before h zero = given (omega arith)
+rules_read_lem text n {first} j before h (suc i) =
+    answered_next (rules_read text n before i) (next_rule text n i) (rules_read_lem text n j before h i) (λ _ _. refusal_more (omega arith)) λ r _ k.
+    subst (λ m. PartRange first m (next_rule text n i r)) (omega arith)
+    (rule_line_lem i r k (rule_heard n (is_taken text (take i r.parts)) r.place.at (drop r.place.at text)))
 
-placed_property : {text : List ℕ} {most : ℕ} (j : ℕ) (r : Progress) {l : Line} → Placed text r.place → Heard (drop r.place.at text) most l → Placed text (propertied j r l).place
-unfolding propertied
-placed_property j r h (fault number w) = h
-placed_property j r h (said w) = placed_behind w.within.at_least (passes h w.within)
+placed_property : {text : List ℕ} {most : ℕ} (j : ℕ) (r : Progress) {l : Line ℕ} → Placed text r.place → Heard (drop r.place.at text) most l
+    → IfGiven (λ q. Placed text q.place) (propertied j r l)
+unfolding propertied following unless_refused with_property
+placed_property j r h (fault number w) = refused tt
+placed_property j r h (said w) = given (placed_behind h (ends_within h w.within))
 
 -- each property line begins within the text, and so does what follows them
-pub properties_placed : (text : List ℕ) (n : ℕ) (p : LineStart) → Placed text p → (j : ℕ) → Placed text (properties_read text n p j).place
-unfolding properties_read next_property none_read
-properties_placed text n p h zero = h
-properties_placed text n p h (suc j) =
-    let r = properties_read text n p j in
-    by_test {A = Progress} (λ x. Placed text x.place) (eqb r.number 0)
-    (λ _. placed_property j r (properties_placed text n p h j) (state_heard prop_key n (drop r.place.at text)))
-    (λ _. properties_placed text n p h j)
+pub properties_placed : (text : List ℕ) (n : ℕ) (before : Progress) → Placed text before.place → (j : ℕ) → IfGiven (λ r. Placed text r.place) (properties_read text n before j)
+unfolding properties_read next_property
+properties_placed text n before h zero = given h
+properties_placed text n before h (suc j) =
+    answered_next (properties_read text n before j) (next_property text n j) (properties_placed text n before h j) (λ _ _ _. tt) λ r _ k.
+    placed_property j r k (state_heard prop_key n (drop r.place.at text))
 
-placed_rule : {text : List ℕ} (i : ℕ) (r : Progress) {l : RuleLine} → Placed text r.place → RuleHeard (drop r.place.at text) l → Placed text (ruled i r l).place
-unfolding ruled
-placed_rule i r h (rule_fault number w) = h
-placed_rule i r h (rule_said w) = placed_behind w.at_least (passes h w)
+placed_rule : {text : List ℕ} (i : ℕ) (r : Progress) {l : Line RuleParts} → Placed text r.place → RuleHeard (drop r.place.at text) l
+    → IfGiven (λ q. Placed text q.place) (ruled i r l)
+unfolding ruled following unless_refused with_rule
+placed_rule i r h (rule_fault number w) = refused tt
+placed_rule i r h (rule_said w) = given (placed_behind h (ends_within h w))
 
 -- each rule line begins within the text
-pub rules_placed : (text : List ℕ) (n : ℕ) (before : Progress) → Placed text before.place → (i : ℕ) → Placed text (rules_read text n before i).place
+pub rules_placed : (text : List ℕ) (n : ℕ) (before : Progress) → Placed text before.place → (i : ℕ) → IfGiven (λ r. Placed text r.place) (rules_read text n before i)
 unfolding rules_read next_rule
-rules_placed text n before h zero = h
+rules_placed text n before h zero = given h
 rules_placed text n before h (suc i) =
-    let r = rules_read text n before i in
-    by_test {A = Progress} (λ x. Placed text x.place) (eqb r.number 0)
-    (λ _. placed_rule i r (rules_placed text n before h i) (rule_heard n (is_taken text r.names r.steps i) r.place.at (drop r.place.at text)))
-    (λ _. rules_placed text n before h i)
+    answered_next (rules_read text n before i) (next_rule text n i) (rules_placed text n before h i) (λ _ _ _. tt) λ r _ k.
+    placed_rule i r k (rule_heard n (is_taken text (take i r.parts)) r.place.at (drop r.place.at text))
+
+-- ---- the lines one after the other
+
+-- the next line is due behind those that are read
+pub property_due : (text : List ℕ) (n : ℕ) (before : Progress) (properties j : ℕ) (r : Progress) → PartsDue text 4 properties before.place → j < properties
+    → properties_read text n before j ≡ Given r → PartDue text 4 j r.place
+property_due text n before properties j r h k q = record { part = omega (arith, h.few); place = given_of (properties_placed text n before h.place j) q }
+
+pub rule_due : (text : List ℕ) (n : ℕ) (before : Progress) (rules i : ℕ) (r : Progress) → PartsDue text 16 rules before.place → i < rules
+    → rules_read text n before i ≡ Given r → PartDue text 16 i r.place
+rule_due text n before rules i r h k q = record { part = omega (arith, h.few); place = given_of (rules_placed text n before h.place i) q }
+
+-- a line that is refused refuses them all
+pub property_refuses : (text : List ℕ) (n : ℕ) (before : Progress) (j properties : ℕ) (r : Progress) (number line : ℕ) → j < properties
+    → properties_read text n before j ≡ Given r → next_property text n j r ≡ RefusedBy number line → properties_read text n before properties ≡ RefusedBy number line
+unfolding properties_read
+property_refuses text n before j properties r number line = refused_at (properties_read text n before) (next_property text n) (λ j. refl) j properties
+
+pub rule_refuses : (text : List ℕ) (n : ℕ) (before : Progress) (i rules : ℕ) (r : Progress) (number line : ℕ) → i < rules
+    → rules_read text n before i ≡ Given r → next_rule text n i r ≡ RefusedBy number line → rules_read text n before rules ≡ RefusedBy number line
+unfolding rules_read
+rule_refuses text n before i rules r number line = refused_at (rules_read text n before) (next_rule text n) (λ i. refl) i rules
 
 -- ---- how many property lines there can be
 

@@ -1,17 +1,17 @@
 -- The laws of the answers: each call is refused by the first number that fits and accepted where none does, a refused call changes no lent
 -- byte, and an accepted one answers and writes what the text means. From the definitions in `Answers`, case by case. Assumes nothing.
-use Rattle.std.specs.Prelude.{ℕ, ◌*◌, ◌^◌, ◌≤◌, ◌<◌, refl, Bool, true, false, cond, List, length}
+use Rattle.std.specs.Prelude.{ℕ, ◌*◌, ◌^◌, ◌≤◌, ◌<◌, refl, Bool, true, false, cond, List, length, Result, Ok, Err}
 use Rattle.std.proofs.Math.Path.{◌≡◌, ap}
-use Rattle.std.proofs.Common.{sym, ◌∙◌, arith, le-leb, lt-ltb, le-ltb}
+use Rattle.std.proofs.Common.{sym, ap₂, ◌∙◌, arith, le-leb, lt-ltb, le-ltb}
 use Rattle.std.proofs.lemmas.Bool.{lt-leb}
-use Rattle.sets.specs.Lists.{bytes_of}
+use Rattle.sets.specs.Lists.{bytes_of, overwritten}
 use Rattle.sets.specs.Laws.Lists.{length_bytes_of}
 use Rattle.sets.specs.Laws.Tabulated.{length_tabulate}
 use Rattle.models.specs.declared.model.Model.{Model}
-use Rattle.models.specs.declared.model.Outcome.{Outcome}
-use Rattle.models.specs.declared.model.Outcome.TheVariants.{Accepted, Refused}
-use Rattle.models.specs.declared.model.Reading.{Reading}
-use Rattle.models.specs.Reading.{read_model}
+use Rattle.refusals.specs.declared.refusal.Refusal.{Refusal}
+use Rattle.refusals.specs.Numbers.{number_of}
+use Rattle.refusals.specs.Answers.{Accepted, Given, Outcome, Refused, RefusedBy, answer_of, outcome_of}
+use Rattle.models.specs.Reading.{read_model, places_of}
 use Rattle.models.specs.Written.{described, model_in}
 use Rattle.models.proofs.Laws.Ranges.{ranges}
 use Rattle.models.proofs.Laws.Written.{described_count}
@@ -19,24 +19,25 @@ use Rattle.semantics.specs.TablesOf.{Few}
 use Rattle.systems.specs.System.{System}
 use Rattle.systems.specs.Verdict.{holds, trace_of}
 use Rattle.sorting.specs.declared.which.WhichList.{WhichList}
-use Rattle.calls.specs.declared.answers.JudgeAnswer.TheVariants.{Refused as JudgeRefused, Holds, Broken}
-use Rattle.calls.specs.declared.answers.ReachedAnswer.TheVariants.{Refused as ReachedRefused, Pairs}
-use Rattle.calls.specs.declared.answers.ListAnswer.TheVariants.{Refused as ListRefused, Count}
+use Rattle.calls.specs.declared.verdict.Verdict.TheVariants.{Holds, Broken}
 use Rattle.sorting.specs.declared.kinds.Kind.{Kind}
-use Rattle.calls.specs.declared.answers.SetAnswer.TheVariants.{Refused as SetRefused, Set}
 use Rattle.calls.specs.Answers.{Gives, rules_in, states_in, system_in, trace_in, marks_in, pairs_in, list_in, kind_in, text_outcome, asked_outcome, judge_outcome, reached_outcome, list_outcome, given, after, verdict_of, judge_answer, judge_bytes, reached_answer, reached_bytes, list_answer, list_bytes, kind_answer}
 use Rattle.calls.specs.AsRead.{IsRead, places_in}
 
 -- ---- what the reading of a text says
 
-module _ (text : List ℕ) {r : Reading} (said : r ≡ read_model text) where
-  pub is_read : r.outcome ≡ Accepted → IsRead text r.model
+module _ (text : List ℕ) {r : Result Model Refusal} (said : answer_of r ≡ read_model text) where
+  pub is_read : {m : Model} → r ≡ Ok m → IsRead text m
   unfolding text_outcome places_in
-  is_read e = record { outcome = ap (λ x. x.outcome) (sym said) ∙ e; model = ap (λ x. x.model) said }
+  is_read {m} e =
+      let g : Given m ≡ read_model text = rw e at said in
+      record { outcome = ap outcome_of (sym g); model = ap places_of g }
 
-  pub is_refused : {number line : ℕ} → r.outcome ≡ Refused number line → text_outcome text ≡ Refused number line
+  pub is_refused : {e : Refusal} → r ≡ Err e → text_outcome text ≡ Refused (number_of e.reason) e.line
   unfolding text_outcome
-  is_refused e = ap (λ x. x.outcome) (sym said) ∙ e
+  is_refused {e} q =
+      let g : RefusedBy (number_of e.reason) e.line ≡ read_model text = rw q at said in
+      ap outcome_of (sym g)
 
 -- The model of a text is told by the places of its parts.
 module _ {text : List ℕ} {m : Model} (r : IsRead text m) where
@@ -46,7 +47,7 @@ module _ {text : List ℕ} {m : Model} (r : IsRead text m) where
 
 pub rules_told : (text : List ℕ) → rules_in text ≡ (places_in text).rules
 unfolding rules_in model_in places_in
-rules_told text = described_count text (read_model text).model
+rules_told text = described_count text (places_of (read_model text))
 
 -- Of any text N is at most 7 and R at most 16.
 pub vars_most : (text : List ℕ) → (model_in text).vars ≤ 7
@@ -77,22 +78,42 @@ module _ {text : List ℕ} {m : Model} (r : IsRead text m) where
 
 -- ---- what a call gives
 
-module _ {A : Type 0} (refuse : ℕ → ℕ → A) (a : A) where
-  pub given_accepted : {o : Outcome} → o ≡ Accepted → given refuse o a ≡ a
+module _ {A : Type 0} (a : A) where
+  pub given_accepted : {o : Outcome} → o ≡ Accepted → given o a ≡ Given a
   unfolding given
   given_accepted e = rw e
 
-  pub given_refused : {o : Outcome} {number line : ℕ} → o ≡ Refused number line → given refuse o a ≡ refuse number line
+  pub given_refused : {o : Outcome} {number line : ℕ} → o ≡ Refused number line → given o a ≡ RefusedBy number line
   unfolding given
   given_refused e = rw e
 
-  -- Where no answer of an accepted call is a refusal, and refusals tell their number and line, a refusal comes from the outcome.
-  pub refusal_given : ((number line : ℕ) → ¬ (a ≡ refuse number line))
-      → ((n l number line : ℕ) → refuse n l ≡ refuse number line → Refused n l ≡ Refused number line)
-      → (o : Outcome) {number line : ℕ} → given refuse o a ≡ refuse number line → o ≡ Refused number line
+  -- A refusal comes from the outcome, with its number and line,
+  pub refusal_given : (o : Outcome) {number line : ℕ} → given o a ≡ RefusedBy number line → o ≡ Refused number line
   unfolding given
-  refusal_given other same Accepted e = absurd (other _ _ e)
-  refusal_given other same (Refused n l) e = same n l _ _ e
+  refusal_given Accepted e = cc
+  refusal_given (Refused n l) {number} {line} e =
+      let p : n ≡ number = cc in
+      let q : l ≡ line = cc in
+      ap₂ Refused p q
+
+  -- and an answer is the one that an accepted call gives.
+  pub answer_given : (o : Outcome) {b : A} → given o a ≡ Given b → (o ≡ Accepted) × (a ≡ b)
+  unfolding given
+  answer_given Accepted e = (refl, cc)
+  answer_given (Refused n l) e = cc
+
+-- Two answers that are given alike are the same.
+pub one_given : {A : Type 0} {a b : A} → Given a ≡ Given b → a ≡ b
+one_given e = cc
+
+module _ (new lent : List ℕ) where
+  pub after_accepted : {o : Outcome} → o ≡ Accepted → after o new lent ≡ overwritten new lent
+  unfolding after
+  after_accepted e = rw e
+
+  pub after_refused : {o : Outcome} {number line : ℕ} → o ≡ Refused number line → after o new lent ≡ lent
+  unfolding after
+  after_refused e = rw e
 
 -- ---- the first number that fits
 
@@ -164,66 +185,51 @@ broken_verdict M n = go (holds M)
     go true q = let z : ◌≡◌ {A = ℕ} 0 1 = cc in absurd (omega arith)
     go false q = (refl, cc)
 
-pub not_refused : (M : System) (number line : ℕ) → ¬ (verdict_of M ≡ JudgeRefused number line)
-unfolding verdict_of
-not_refused M number line = go (holds M)
-  where
-    go : (b : Bool) → cond b Holds (Broken (length (trace_of M))) ≡ JudgeRefused number line → ⊥
-    go true q = let z : ◌≡◌ {A = ℕ} 0 1 = cc in omega arith
-    go false q = let z : ◌≡◌ {A = ℕ} 0 1 = cc in omega arith
-
 -- ---- the marks of a search
 
 pub length_marks : (text : List ℕ) (S : ℕ) → length (marks_in text S) ≡ states_in text
 unfolding marks_in
 length_marks text S = length_tabulate (states_in text) _
 
-pub pairs_told : (n number line : ℕ) → ¬ (Pairs n ≡ ReachedRefused number line)
-pairs_told n number line q = let z : ◌≡◌ {A = ℕ} 0 1 = cc in omega arith
-
 -- ---- an accepted call answers and writes what the text means
 
 module _ (text : List ℕ) (model : text_outcome text ≡ Accepted) where
   pub judge_enough : (S : ℕ) (lent : List ℕ) → S < 2 ^ rules_in text → length (trace_in text S) ≤ length lent
       → Gives (verdict_of (system_in text S)) (trace_in text S) lent (judge_answer text S lent) (judge_bytes text S lent)
-  unfolding judge_answer judge_bytes after
+  unfolding judge_answer judge_bytes
   judge_enough S lent h l =
       let e = (judge_numbers text S lent).by_none model h l in
-      record { says = given_accepted JudgeRefused _ e; writes = given_accepted _ _ e }
+      record { says = given_accepted _ e; writes = after_accepted _ _ e }
 
   pub reached_enough : (S : ℕ) (lent : List ℕ) → S < 2 ^ rules_in text → states_in text ≤ length lent
-      → Gives (Pairs (pairs_in text S)) (marks_in text S) lent (reached_answer text S lent) (reached_bytes text S lent)
-  unfolding reached_answer reached_bytes after
+      → Gives (pairs_in text S) (marks_in text S) lent (reached_answer text S lent) (reached_bytes text S lent)
+  unfolding reached_answer reached_bytes
   reached_enough S lent h l =
       let e = (reached_numbers text S lent).by_none model h (omega (arith, length_marks text S)) in
-      record { says = given_accepted ReachedRefused _ e; writes = given_accepted _ _ e }
+      record { says = given_accepted _ e; writes = after_accepted _ _ e }
 
   pub list_enough : (which : WhichList) (lent : List ℕ) → 2 * length (list_in which text) ≤ length lent
-      → Gives (Count (length (list_in which text))) (bytes_of (list_in which text)) lent (list_answer which text lent) (list_bytes which text lent)
-  unfolding list_answer list_bytes after
+      → Gives (length (list_in which text)) (bytes_of (list_in which text)) lent (list_answer which text lent) (list_bytes which text lent)
+  unfolding list_answer list_bytes
   list_enough which lent l =
       let e = (list_numbers which text lent).by_none model l in
-      record { says = given_accepted ListRefused _ e; writes = given_accepted _ _ e }
+      record { says = given_accepted _ e; writes = after_accepted _ _ e }
 
-  pub kind_given : (kind : Kind) → kind_answer kind text ≡ Set (kind_in kind text)
+  pub kind_given : (kind : Kind) → kind_answer kind text ≡ Given (kind_in kind text)
   unfolding kind_answer
-  kind_given kind = given_accepted SetRefused _ model
+  kind_given kind = given_accepted _ model
 
 -- ---- a refused call changes no lent byte
 
 module _ (text lent : List ℕ) (number line : ℕ) where
-  pub judge_refused : (S : ℕ) → judge_answer text S lent ≡ JudgeRefused number line → judge_bytes text S lent ≡ lent
-  unfolding judge_answer judge_bytes after
-  judge_refused S e =
-      given_refused _ _ (refusal_given JudgeRefused _ (not_refused (system_in text S)) (λ n l number line q. cc) (judge_outcome text S lent) e)
+  pub judge_refused : (S : ℕ) → judge_answer text S lent ≡ RefusedBy number line → judge_bytes text S lent ≡ lent
+  unfolding judge_answer judge_bytes
+  judge_refused S e = after_refused _ _ (refusal_given _ (judge_outcome text S lent) e)
 
-  pub reached_refused : (S : ℕ) → reached_answer text S lent ≡ ReachedRefused number line → reached_bytes text S lent ≡ lent
-  unfolding reached_answer reached_bytes after
-  reached_refused S e =
-      given_refused _ _ (refusal_given ReachedRefused _ (pairs_told (pairs_in text S)) (λ n l number line q. cc) (reached_outcome text S lent) e)
+  pub reached_refused : (S : ℕ) → reached_answer text S lent ≡ RefusedBy number line → reached_bytes text S lent ≡ lent
+  unfolding reached_answer reached_bytes
+  reached_refused S e = after_refused _ _ (refusal_given _ (reached_outcome text S lent) e)
 
-  pub list_refused : (which : WhichList) → list_answer which text lent ≡ ListRefused number line → list_bytes which text lent ≡ lent
-  unfolding list_answer list_bytes after
-  list_refused which e =
-      given_refused _ _
-      (refusal_given ListRefused _ (λ n l q. let z : ◌≡◌ {A = ℕ} 0 1 = cc in omega arith) (λ n l number line q. cc) (list_outcome which text lent) e)
+  pub list_refused : (which : WhichList) → list_answer which text lent ≡ RefusedBy number line → list_bytes which text lent ≡ lent
+  unfolding list_answer list_bytes
+  list_refused which e = after_refused _ _ (refusal_given _ (list_outcome which text lent) e)

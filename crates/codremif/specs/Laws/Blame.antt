@@ -1,6 +1,6 @@
 -- What `Blame` says is true of every accepted text and every accepted log. From the run that the log is (`Rattle.blaming.proofs.Laws.Run`), from the duality
 -- of cores and cuts, and from where the sets of a list stand in its bytes (`lookup`). Assumes nothing.
-use Rattle.std.specs.Prelude.{ℕ, ◌-◌, ◌<◌, ◌≡◌, Bool, false, List, length}
+use Rattle.std.specs.Prelude.{ℕ, ◌-◌, ◌≡◌, Bool, false, List, Option, Some, None, length}
 use Rattle.std.proofs.Math.Path.{refl}
 use Rattle.std.proofs.Common.{sym, ap, ◌∙◌, arith}
 use Rattle.std.proofs.Math.Pow.{ones_lt}
@@ -12,18 +12,17 @@ use Rattle.sets.specs.Laws.Cores.{breaks_iff, breaks_core}
 use Rattle.sets.specs.Laws.Sets.{part_le}
 use Rattle.sets.proofs.Laws.Duality.{duality, breaks_monotone}
 use Rattle.sets.specs.Laws.Listed.{cores_of_lists, cuts_of_lists}
-use Rattle.models.specs.declared.model.Outcome.TheVariants.{Accepted}
+use Rattle.refusals.specs.Answers.{Accepted, Given, Answer}
 use Rattle.lookup.specs.Laws.Lists.{stands, is_listed, core_small, cut_small}
 use Rattle.sorting.specs.declared.which.WhichList.TheVariants.{Cores, Cuts}
 use Rattle.sorting.specs.Which as Which
 use Rattle.logs.specs.declared.blame.Blamed.{Blamed}
 use Rattle.calls.specs.Answers.{rules_in, judge_in, list_in, text_outcome}
 use Rattle.calls.proofs.Laws.Answers.{rules_most}
-use Rattle.blaming.specs.declared.answer.BlameAnswer.TheVariants.{BreachAt, NoBreach}
-use Rattle.blaming.specs.Answer.{blame_in, blamed_answer, blame_answer}
-use Rattle.blaming.proofs.Laws.Answer.{blame_says, blamed_below, breach_told, none_told, blame_given}
+use Rattle.blaming.specs.Answer.{blame_in, blame_answer}
+use Rattle.blaming.proofs.Laws.Answer.{blame_says, blamed_below, blame_given}
 use Rattle.blaming.proofs.Laws.Run.{log_breach, kept_broken}
-use Rattle.packing.specs.Packing.{accepted, blame_parts, breach_number, packed}
+use Rattle.packing.specs.Packing.{accepted, parts_by, blamed_parts, blame_parts, breach_number, packed}
 use Rattle.codremif.specs.Suffices.{TextTelling, text_by_answers, text_by_hosts}
 use Rattle.codremif.specs.OneCore.{StandsIn}
 use Rattle.codremif.specs.Blame.{BlameTelling, blame_by_answers, host_blamed, blame_by_hosts, AcceptedLog, Breached, Blames, FromLogs}
@@ -34,18 +33,18 @@ use Rattle.codremif.specs.Laws.Telling.{Tells, answers_tell, hosts_tell}
 -- ---- how the calls tell what a log says
 
 record TellsBlame {A : Type 0} (t : BlameTelling A) : Type 0 where
-  breach : (text log : List ℕ) (B place : ℕ) → blame_answer text log ≡ BreachAt B place → t.answer text log ≡ t.breach B place
-  no_breach : (text log : List ℕ) (B states : ℕ) → blame_answer text log ≡ NoBreach B states → t.answer text log ≡ t.no_breach B states
+  breach : (text log : List ℕ) (B place : ℕ) → blame_answer text log ≡ Given (record { set = B; breach = Some place }) → t.answer text log ≡ t.breach B place
+  no_breach : (text log : List ℕ) (B : ℕ) → blame_answer text log ≡ Given (record { set = B; breach = None }) → t.answer text log ≡ t.no_breach B (length log)
 
 answers_tell_blame : TellsBlame blame_by_answers
 unfolding blame_by_answers
-answers_tell_blame = record { breach = λ text log B place e. e; no_breach = λ text log B states e. e }
+answers_tell_blame = record { breach = λ text log B place e. e; no_breach = λ text log B e. e }
 
 hosts_tell_blame : TellsBlame blame_by_hosts
-unfolding blame_by_hosts host_blamed blame_parts breach_number packed accepted
+unfolding blame_by_hosts host_blamed blame_parts parts_by blamed_parts breach_number packed accepted
 hosts_tell_blame = record {
-  breach = λ text log B place e. ap host_blamed e ∙ ap (λ (x : ℕ). record { blame = x; breach = place }) (omega arith);
-  no_breach = λ text log B states e. ap host_blamed e ∙ ap (λ (x : ℕ). record { blame = x; breach = states }) (omega arith);
+  breach = λ text log B place e. ap (host_blamed (length log)) e ∙ ap (λ (x : ℕ). record { blame = x; breach = place }) (omega arith);
+  no_breach = λ text log B e. ap (host_blamed (length log)) e ∙ ap (λ (x : ℕ). record { blame = x; breach = length log }) (omega arith);
 }
 
 -- ---- a text and a log
@@ -60,7 +59,7 @@ module _ (text : List ℕ) (model : text_outcome text ≡ Accepted) (log : List 
   abbrev b : Blamed
   b = blame_in text log
 
-  module _ (there : b.place < length log) where
+  module _ {place : ℕ} (there : b.breach ≡ Some place) where
     broken : h (full R - b.set) ≡ false
     broken = kept_broken text log a.states a.init there
 
@@ -81,7 +80,7 @@ module _ (text : List ℕ) (model : text_outcome text ≡ Accepted) (log : List 
         let listed = (cuts_of_lists R h).each c.0 (record { rules = omega (arith, part_le {S = c.0} c.1, blamed_below text log); itself = cut }) in
         (c.0, stands (λ S. S ≡ c.0) (cuts_of R h) (cut_small R h (rules_most text)) c.0 listed refl, c.1)
 
-    breached : {J L M : Type 0} (w : TextTelling J L M) → Tells w → Breached w text log b
+    breached : {J L M : Type 0} (w : TextTelling J L M) → Tells w → Breached w text log b.set place
     breached w tells = record {
       run = log_breach text log a.states a.init there;
       every_core = λ list r C s. shares_core C (rw (tells.wrote text model Cores list r) at s);
@@ -92,16 +91,20 @@ module _ (text : List ℕ) (model : text_outcome text ≡ Accepted) (log : List 
           (j.0, j.1, (tells.broken text (full R) lent j.0 j.1).1 j.2);
     }
 
+  -- what is answered where the first bad state stands at a place, or nowhere
+  abbrev said : Option ℕ → Answer Blamed
+  said breach = Given (record { set = b.set; breach = breach })
+
   blames : {J L M A : Type 0} (w : TextTelling J L M) → Tells w → (t : BlameTelling A) → TellsBlame t → Blames w t text log
   blames w tells t told = record {
     blamed = b;
     says = blame_says text log;
-    breach = λ there. told.breach text log b.set b.place (sym (breach_told (length log) b there ∙ given));
-    no_breach = λ end. told.no_breach text log b.set (length log) (sym (ap (NoBreach b.set) (sym end) ∙ none_told (length log) b (omega arith) ∙ given));
-    breached = λ there. breached there w tells;
+    breach = λ place there. told.breach text log b.set place (sym (ap said (sym there) ∙ given));
+    no_breach = λ none. told.no_breach text log b.set (sym (ap said (sym none) ∙ given));
+    breached = λ place there. breached there w tells;
   }
     where
-      given : blamed_answer (length log) b ≡ blame_answer text log
+      given : said b.breach ≡ blame_answer text log
       given = blame_given text log model a.states a.init
 
 -- The call in Rattle, and the exported ones.

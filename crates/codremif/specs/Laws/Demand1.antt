@@ -1,5 +1,6 @@
 -- Demand 1 is true of every call: it is refused by the first fitting number and its line, every other part of the answer is then 0, and no lent
 -- byte changes; where no number fits it is accepted. From the theorem about reading (`Rattle.models.proofs.Refused`) and the laws of the answers.
+use Rattle.packing.specs.declared.parts.Parts.{Parts}
 use Rattle.std.specs.Prelude.{ℕ, ◌*◌, ◌^◌, ◌≤◌, ◌<◌, ◌≡◌, ◌↔◌, ◌⊎◌, Bool, get_or}
 use Rattle.std.proofs.Math.Path.{refl, ap, subst}
 use Rattle.std.proofs.Common.{sym, ap₂, ◌∙◌, subst₂, inl, inr, true≢false, arith}
@@ -10,8 +11,7 @@ use Rattle.std.proofs.Math.ListN.{length}
 use Rattle.sets.specs.Lists.{bytes_of}
 use Rattle.sets.specs.Orders.{IsOrder}
 use Rattle.sets.specs.Laws.Orders.{order_or_not}
-use Rattle.models.specs.declared.model.Outcome.{Outcome}
-use Rattle.models.specs.declared.model.Outcome.TheVariants.{Accepted, Refused}
+use Rattle.refusals.specs.Answers.{Accepted, Outcome, Refused, RefusedBy, Answer}
 use Rattle.models.specs.Refusals.{FitsAt, line_missing, count_wrong, name_improper, name_taken, length_wrong, byte_other, letter_beyond, letter_capital, not_one, bytes_follow, First}
 use Rattle.models.proofs.Laws.Refusals.{RightOutcome, none_fits, first_fits, right_outcome}
 use Rattle.models.specs.Written.{model_in}
@@ -22,20 +22,14 @@ use Rattle.logs.specs.Log.{IsLog}
 use Rattle.logs.proofs.Laws.Log.{log_or_not}
 use Rattle.semantics.specs.Meaning.{init_met}
 use Rattle.sorting.specs.declared.which.WhichList.{WhichList}
-use Rattle.calls.specs.declared.answers.JudgeAnswer.TheVariants.{Refused as JudgeRefused}
-use Rattle.calls.specs.declared.answers.ReachedAnswer.TheVariants.{Refused as ReachedRefused}
-use Rattle.calls.specs.declared.answers.ListAnswer.TheVariants.{Refused as ListRefused, Count}
-use Rattle.calls.specs.declared.answers.SetAnswer.TheVariants.{Refused as SetRefused, Set}
-use Rattle.calls.specs.Answers.{rules_in, states_in, system_in, trace_in, marks_in, pairs_in, list_in, kind_in, text_outcome, asked_outcome, judge_outcome, reached_outcome, list_outcome, given, after, judge_answer, judge_bytes, reached_answer, reached_bytes, list_answer, list_bytes, kind_answer}
-use Rattle.preferences.specs.declared.answer.OneCoreAnswer.TheVariants.{Refused as OneCoreRefused}
-use Rattle.preferences.specs.Answer.{one_core_in, one_core_outcome, one_core_answer}
-use Rattle.preferences.proofs.Laws.Answer.{OneCoreNumbers, one_core_numbers, found_told}
-use Rattle.blaming.specs.declared.answer.BlameAnswer.TheVariants.{Refused as BlameRefused}
-use Rattle.blaming.specs.Answer.{blame_in, blame_outcome, blame_answer}
-use Rattle.blaming.proofs.Laws.Answer.{BlameNumbers, blame_numbers, blamed_told}
-use Rattle.packing.specs.Packing.{Parts, refused, judge_parts, reached_parts, list_parts, set_parts, one_core_parts, blame_parts, breach_number, packed}
+use Rattle.calls.specs.Answers.{rules_in, states_in, system_in, trace_in, marks_in, list_in, text_outcome, asked_outcome, judge_outcome, reached_outcome, list_outcome, given, after, judge_answer, judge_bytes, reached_answer, reached_bytes, list_answer, list_bytes, kind_answer}
+use Rattle.preferences.specs.Answer.{one_core_outcome, one_core_answer}
+use Rattle.preferences.proofs.Laws.Answer.{OneCoreNumbers, one_core_numbers}
+use Rattle.blaming.specs.Answer.{blame_outcome, blame_answer}
+use Rattle.blaming.proofs.Laws.Answer.{BlameNumbers, blame_numbers}
+use Rattle.packing.specs.Packing.{refused, judge_parts, reached_parts, list_parts, set_parts, one_core_parts, blame_parts, breach_number, packed}
 use Rattle.codremif.specs.Demand1.{CallFits, text_fits, own_fits, AskedOwn, set_beyond, bytes_fewer, TraceLonger, JudgeFits, ReachedFits, ListOwn, list_longer, ListFits, OneCoreOwn, no_order, OneCoreFits, BlameOwn, no_log, init_unmet, BlameFits, FirstOf, Refusals, Demand1, HostRefusals, HostDemand1}
-use Rattle.calls.proofs.Laws.Answers.{AskedNumbers, asked_numbers, ListNumbers, list_numbers, given_refused, given_accepted, refusal_given, not_refused, length_marks, pairs_told}
+use Rattle.calls.proofs.Laws.Answers.{AskedNumbers, asked_numbers, ListNumbers, list_numbers, given_refused, given_accepted, refusal_given, after_refused, length_marks}
 use Rattle.codremif.specs.Laws.Host.{HostReads, judge_reads, reached_reads, list_reads, kind_reads, one_core_reads, blame_reads}
 
 -- ---- the numbers of a text are 1 to 9
@@ -310,79 +304,66 @@ module _ {Fits : ℕ → ℕ → Type 0} (zero-line : (number line : ℕ) → Fi
   accepted_none (fits_none n) = (λ q. n, λ f. refl)
   accepted_none (fits_first {number = m} {line = k} g) = (λ q. let z : ◌≡◌ {A = ℕ} 0 1 = cc in absurd (omega arith), λ f. absurd (f m k g.fits))
 
-  -- what such a call gives, where refusals tell their number and line and no answer is one
-  module _ {A : Type 0} (refuse : ℕ → ℕ → A) (parts : A → Parts) (told : (number line : ℕ) → parts (refuse number line) ≡ refused number line) (a : A)
-      (other : (number line : ℕ) → ¬ (a ≡ refuse number line)) (same : (n l number line : ℕ) → refuse n l ≡ refuse number line → Refused n l ≡ Refused number line)
-      {o : Outcome} (r : Right Fits o) where
-    refusals : (new lent : List ℕ) → Refusals Fits refuse parts lent (given refuse o a) (after o new lent)
-    unfolding after
+  -- what such a call gives, whose parts of a refusal are its number and line
+  module _ {A : Type 0} (parts : Answer A → Parts) (told : (number line : ℕ) → parts (RefusedBy number line) ≡ refused number line) (a : A) {o : Outcome} (r : Right Fits o) where
+    refusals : (new lent : List ℕ) → Refusals Fits parts lent (given o a) (after o new lent)
     refusals new lent = record {
       first = λ number line. (
-        λ q. (refused_first r number line).0 (refusal_given refuse a other same o q),
-        λ f. given_refused refuse a ((refused_first r number line).1 f),
+        λ q. (refused_first r number line).0 (refusal_given a o q),
+        λ f. given_refused a ((refused_first r number line).1 f),
       );
       accepted = (
         λ none. (accepted_none r).0 (never none),
-        λ f number line q. other number line (sym (given_accepted refuse a ((accepted_none r).1 f)) ∙ q),
+        λ f number line q. let z = sym (given_accepted a ((accepted_none r).1 f)) ∙ q in cc,
       );
       zero = λ number line q. ap parts q ∙ told number line;
-      kept = λ number line q. given_refused (λ n l. lent) _ (refusal_given refuse a other same o q);
+      kept = λ number line q. after_refused new lent (refusal_given a o q);
     }
       where
-        never : ((number line : ℕ) → ¬ (given refuse o a ≡ refuse number line)) → o ≡ Accepted
+        never : ((number line : ℕ) → ¬ (given o a ≡ RefusedBy number line)) → o ≡ Accepted
         never none = go o refl
           where
             go : (p : Outcome) → o ≡ p → p ≡ Accepted
             go Accepted e = refl
-            go (Refused n l) e = absurd (none n l (given_refused refuse a e))
+            go (Refused n l) e = absurd (none n l (given_refused a e))
 
     -- the same of the packed number, whose lowest byte is 0 exactly where the call is accepted
-    host_refusals : (new lent : List ℕ) → HostReads o (parts (given refuse o a)) → HostRefusals Fits lent (packed (parts (given refuse o a))) (after o new lent)
-    unfolding after packed refused
+    host_refusals : (new lent : List ℕ) → HostReads o (parts (given o a)) → HostRefusals Fits lent (packed (parts (given o a))) (after o new lent)
+    unfolding packed refused
     host_refusals new lent h = record {
       accepted = (
         λ e. (accepted_none r).0 (h.zero.0 (sym h.parts.number ∙ e)),
         λ f. h.parts.number ∙ h.zero.1 ((accepted_none r).1 f),
       );
       first = λ number line f.
-          let e = ap parts (given_refused refuse a ((refused_first r number line).1 f)) ∙ told number line in
+          let e = ap parts (given_refused a ((refused_first r number line).1 f)) ∙ told number line in
           ap packed e ∙ omega arith;
-      kept = λ number line f. given_refused (λ n l. lent) _ ((refused_first r number line).1 f);
+      kept = λ number line f. after_refused new lent ((refused_first r number line).1 f);
     }
 
 -- ---- the demand
 
 module _ (text : List ℕ) where
-  -- no answer of an accepted call is a refusal
-  count_other : (n number line : ℕ) → ¬ (Count n ≡ ListRefused number line)
-  count_other n number line q = let z : ◌≡◌ {A = ℕ} 0 1 = cc in omega arith
-
-  set_other : (S number line : ℕ) → ¬ (Set S ≡ SetRefused number line)
-  set_other S number line q = let z : ◌≡◌ {A = ℕ} 0 1 = cc in omega arith
-
   pub calls_meet_demand1 : Demand1 text
   unfolding judge_answer judge_bytes reached_answer reached_bytes list_answer list_bytes kind_answer one_core_answer blame_answer judge_parts reached_parts list_parts set_parts one_core_parts blame_parts
   calls_meet_demand1 =
       record {
         judge = λ S lent.
-            refusals (call_zero text (AskedOwn text S (TraceLonger text S lent))) JudgeRefused judge_parts (λ n l. refl) _ (not_refused (system_in text S)) (λ n l k j q. cc) (judge_right text S lent) (trace_in text S) lent;
+            refusals (call_zero text (AskedOwn text S (TraceLonger text S lent))) judge_parts (λ n l. refl) _ (judge_right text S lent) (trace_in text S) lent;
         reached = λ S lent.
-            refusals (call_zero text (AskedOwn text S (length lent < states_in text))) ReachedRefused reached_parts (λ n l. refl) _ (pairs_told (pairs_in text S)) (λ n l k j q. cc)
-            (reached_right text S lent) (marks_in text S) lent;
+            refusals (call_zero text (AskedOwn text S (length lent < states_in text))) reached_parts (λ n l. refl) _ (reached_right text S lent) (marks_in text S) lent;
         list = λ which lent.
-            refusals (call_zero text (ListOwn which text lent)) ListRefused list_parts (λ n l. refl) _ (count_other (length (list_in which text))) (λ n l k j q. cc) (list_right which text lent)
+            refusals (call_zero text (ListOwn which text lent)) list_parts (λ n l. refl) _ (list_right which text lent)
             (bytes_of (list_in which text)) lent;
         kind = λ kind.
-            let r = refusals (text_zero text) SetRefused set_parts (λ n l. refl) _ (set_other (kind_in kind text)) (λ n l k j q. cc) (text_right text) [] [] in
+            let r = refusals (text_zero text) set_parts (λ n l. refl) _ (text_right text) [] [] in
             record { first = r.first; accepted = r.accepted; zero = r.zero; kept = λ n l q. refl };
         one_core = λ order.
-            let r = refusals (call_zero text (OneCoreOwn text order)) OneCoreRefused one_core_parts (λ n l. refl) _ (found_told (one_core_in text order)) (λ n l k j q. cc)
-            (one_core_right text order) [] []
+            let r = refusals (call_zero text (OneCoreOwn text order)) one_core_parts (λ n l. refl) _ (one_core_right text order) [] []
             in
             record { first = r.first; accepted = r.accepted; zero = r.zero; kept = λ n l q. refl };
         blame = λ log.
-            let r = refusals (call_zero text (BlameOwn text log)) BlameRefused blame_parts (λ n l. refl) _ (blamed_told (length log) (blame_in text log)) (λ n l k j q. cc)
-            (blame_right text log) [] []
+            let r = refusals (call_zero text (BlameOwn text log)) blame_parts (λ n l. refl) _ (blame_right text log) [] []
             in
             record { first = r.first; accepted = r.accepted; zero = r.zero; kept = λ n l q. refl };
       }
@@ -392,28 +373,25 @@ module _ (text : List ℕ) where
   hosts_meet_demand1 =
       record {
         judge = λ S lent.
-            host_refusals (call_zero text (AskedOwn text S (TraceLonger text S lent))) JudgeRefused judge_parts (λ n l. refl) _ (not_refused (system_in text S)) (λ n l k j q. cc) (judge_right text S lent) (trace_in text S) lent
+            host_refusals (call_zero text (AskedOwn text S (TraceLonger text S lent))) judge_parts (λ n l. refl) _ (judge_right text S lent) (trace_in text S) lent
             (judge_reads text S lent);
         reached = λ S lent.
-            host_refusals (call_zero text (AskedOwn text S (length lent < states_in text))) ReachedRefused reached_parts (λ n l. refl) _ (pairs_told (pairs_in text S)) (λ n l k j q. cc)
-            (reached_right text S lent) (marks_in text S) lent (reached_reads text S lent);
+            host_refusals (call_zero text (AskedOwn text S (length lent < states_in text))) reached_parts (λ n l. refl) _ (reached_right text S lent) (marks_in text S) lent (reached_reads text S lent);
         list = λ which lent.
-            host_refusals (call_zero text (ListOwn which text lent)) ListRefused list_parts (λ n l. refl) _ (count_other (length (list_in which text))) (λ n l k j q. cc) (list_right which text lent)
+            host_refusals (call_zero text (ListOwn which text lent)) list_parts (λ n l. refl) _ (list_right which text lent)
             (bytes_of (list_in which text)) lent (list_reads which text lent);
         kind = λ kind.
-            let r = host_refusals (text_zero text) SetRefused set_parts (λ n l. refl) _ (set_other (kind_in kind text)) (λ n l k j q. cc) (text_right text) [] [] (kind_reads kind text)
+            let r = host_refusals (text_zero text) set_parts (λ n l. refl) _ (text_right text) [] [] (kind_reads kind text)
             in
             record { accepted = r.accepted; first = r.first; kept = λ n l f. refl };
         one_core = λ order.
-            let r = host_refusals (call_zero text (OneCoreOwn text order)) OneCoreRefused one_core_parts (λ n l. refl) _ (found_told (one_core_in text order)) (λ n l k j q. cc)
-            (one_core_right text order) [] [] (one_core_reads text order)
+            let r = host_refusals (call_zero text (OneCoreOwn text order)) one_core_parts (λ n l. refl) _ (one_core_right text order) [] [] (one_core_reads text order)
             in
             record { accepted = r.accepted; first = r.first; kept = λ n l f. refl };
         blame = λ log.
-            let r = host_refusals (call_zero text (BlameOwn text log)) BlameRefused blame_parts (λ n l. refl) _ (blamed_told (length log) (blame_in text log)) (λ n l k j q. cc)
-            (blame_right text log) [] [] (blame_reads text log)
+            let r = host_refusals (call_zero text (BlameOwn text log)) blame_parts (λ n l. refl) _ (blame_right text log) [] [] (blame_reads text log)
             in
             record { accepted = r.accepted; first = r.first; kept = λ n l f. refl };
         breach = λ log number line f.
-            ap breach_number (given_refused BlameRefused _ ((refused_first (call_zero text (BlameOwn text log)) (blame_right text log) number line).1 f));
+            ap (breach_number (length log)) (given_refused _ ((refused_first (call_zero text (BlameOwn text log)) (blame_right text log) number line).1 f));
       }

@@ -8,16 +8,14 @@ use Rattle.exprs.specs.Token.{token_of}
 use Rattle.exprs.specs.Expr.{size}
 use Rattle.lines.specs.Bytes.{belongs}
 use Rattle.models.specs.Laws.Tables.{map_agree}
-use Rattle.models.specs.declared.model.Outcome.{Outcome}
-use Rattle.models.specs.declared.model.Outcome.TheVariants.{Accepted}
+use Rattle.refusals.specs.Answers.{Accepted, Given, Outcome}
 use Rattle.systems.specs.System.{System}
 use Rattle.systems.specs.Verdict.{holds, trace_of}
 use Rattle.systems.specs.Judged.{judged}
 use Rattle.sorting.specs.declared.which.WhichList.{WhichList}
 use Rattle.sorting.specs.declared.which.WhichList.TheVariants.{Cores, Cuts}
-use Rattle.calls.specs.declared.answers.JudgeAnswer.TheVariants.{Holds, Broken}
+use Rattle.calls.specs.declared.verdict.Verdict.TheVariants.{Holds, Broken}
 use Rattle.sorting.specs.declared.kinds.Kind.TheVariants.{Must}
-use Rattle.calls.specs.declared.answers.SetAnswer.TheVariants.{Set}
 use Rattle.calls.specs.Answers.{rules_in, system_in, trace_in, list_in, kind_in, text_outcome, verdict_of}
 use Rattle.codremif.specs.Examples.{Case, table, verdict_for, expected_list, Answered}
 use Rattle.calls.proofs.Laws.Answers.{judge_enough, list_enough, kind_given}
@@ -79,11 +77,11 @@ answered c e = record {
       let trace : trace_in c.text j.set ≡ j.trace = map_agree _ _ c.judged (ap (λ x. x.traces) e) j m in
       let r = judge_enough c.text model j.set lent (ltb-true j.set (2 ^ rules_in c.text) inside) (rw trace h) in
       record {
-        says = r.says ∙ verdict_trace (system_in c.text j.set) ∙ ap verdict_for trace;
+        says = r.says ∙ ap Given (verdict_trace (system_in c.text j.set) ∙ ap verdict_for trace);
         writes = r.writes ∙ ap (λ t. overwritten t lent) trace;
       };
   lists = λ which lent h. rw (lists which) at (list_enough c.text model which lent (rw (lists which) h));
-  must = kind_given c.text model Must ∙ ap Set (ap (λ x. x.must) e);
+  must = kind_given c.text model Must ∙ ap Given (ap (λ x. x.must) e);
 }
   where
     model : text_outcome c.text ≡ Accepted

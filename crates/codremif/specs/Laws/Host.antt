@@ -1,12 +1,13 @@
 -- What a C host can read from the one number that a call gives it: every part of the answer, and by number 0 whether the call was accepted.
 -- From how large the parts can be: a trace has at most 128 states, at most 128 * 128 pairs are tried, a list has at most 2^16 sets, a set of rules is
 -- below 2^16, at most 17 judgements are made to find one core; and from one bound on the numbers and lines of refusals, below 256. Assumes nothing.
-use Rattle.std.specs.Prelude.{ℕ, ◌^◌, ◌≤◌, ◌<◌, ◌≡◌, refl, ◌↔◌, Bool, true, false, not, cond, List, leb, ltb, length, get_or}
+use Rattle.packing.specs.declared.parts.Parts.{Parts}
+use Rattle.std.specs.Prelude.{ℕ, ◌^◌, ◌≤◌, ◌<◌, ◌≡◌, refl, ◌↔◌, Bool, true, false, not, cond, List, leb, ltb, length, get_or, Option, Some, None, IfSome}
+use Rattle.std.specs.Option.{is_none}
 use Rattle.std.proofs.Common.{arith, pow_mono}
 use Rattle.sets.specs.Lists.{bytes_of}
 use Rattle.sets.specs.Orders.{is_order}
-use Rattle.models.specs.declared.model.Outcome.{Outcome}
-use Rattle.models.specs.declared.model.Outcome.TheVariants.{Accepted, Refused}
+use Rattle.refusals.specs.Answers.{Accepted, Outcome, Refused, outcome_of}
 use Rattle.models.specs.Reading.{read_model}
 use Rattle.models.proofs.Laws.Ranges.{Refusal, ranges}
 use Rattle.models.specs.Written.{model_in}
@@ -15,18 +16,13 @@ use Rattle.logs.specs.Log.{is_log}
 use Rattle.semantics.specs.Meaning.{init_met}
 use Rattle.sorting.specs.declared.which.WhichList.{WhichList}
 use Rattle.sorting.specs.declared.kinds.Kind.{Kind}
-use Rattle.calls.specs.declared.answers.JudgeAnswer.TheVariants.{Refused as JudgeRefused, Holds, Broken}
-use Rattle.calls.specs.declared.answers.ReachedAnswer.TheVariants.{Refused as ReachedRefused}
-use Rattle.calls.specs.declared.answers.ListAnswer.TheVariants.{Refused as ListRefused}
-use Rattle.calls.specs.declared.answers.SetAnswer.TheVariants.{Refused as SetRefused}
+use Rattle.calls.specs.declared.verdict.Verdict.TheVariants.{Holds, Broken}
 use Rattle.calls.specs.Answers.{rules_in, states_in, system_in, trace_in, marks_in, pairs_in, list_in, kind_in, ◌or_else◌, refused_if, text_outcome, asked_outcome, judge_outcome, reached_outcome, list_outcome, given, verdict_of, judge_answer, reached_answer, list_answer, kind_answer}
-use Rattle.preferences.specs.declared.answer.OneCoreAnswer.TheVariants.{Refused as OneCoreRefused, CoreFound, NoCore}
-use Rattle.preferences.specs.Answer.{order_outcome, one_core_outcome, one_core_in, found_answer, one_core_answer}
+use Rattle.preferences.specs.Answer.{order_outcome, one_core_outcome, one_core_in, one_core_answer}
 use Rattle.preferences.proofs.Laws.Answer.{one_core_fits}
-use Rattle.blaming.specs.declared.answer.BlameAnswer.TheVariants.{Refused as BlameRefused, BreachAt, NoBreach}
-use Rattle.blaming.specs.Answer.{blame_in, log_outcome, init_outcome, blame_outcome, blamed_answer, blame_answer}
+use Rattle.blaming.specs.Answer.{blame_in, log_outcome, init_outcome, blame_outcome, blame_answer}
 use Rattle.blaming.proofs.Laws.Answer.{blame_fits}
-use Rattle.packing.specs.Packing.{InRange, Parts, counted, accepted, refused, judge_parts, reached_parts, list_parts, set_parts, one_core_parts, blame_parts, packed, Unpacked}
+use Rattle.packing.specs.Packing.{InRange, counted, accepted, refused, parts_by, verdict_parts, number_parts, core_parts, found_parts, blamed_parts, judge_parts, reached_parts, list_parts, set_parts, one_core_parts, blame_parts, packed, Unpacked}
 use Rattle.calls.proofs.Laws.Answers.{rules_most}
 use Rattle.calls.proofs.Laws.Sizes.{trace_le, pairs_le, list_le, kind_lt}
 use Rattle.packing.specs.Laws.Packing.{unpacked}
@@ -40,9 +36,9 @@ data Numbered : Outcome → Type 0 where
 
 text_numbered : (text : List ℕ) → Numbered (text_outcome text)
 unfolding text_outcome
-text_numbered text = go (read_model text).outcome refl
+text_numbered text = go (outcome_of (read_model text)) refl
   where
-    go : (o : Outcome) → (read_model text).outcome ≡ o → Numbered o
+    go : (o : Outcome) → outcome_of (read_model text) ≡ o → Numbered o
     go Accepted e = none
     go (Refused number line) e =
         let r : Refusal number line = (ranges text).refusal number line e in
@@ -109,54 +105,46 @@ unfolding accepted
 accepted_reads amount b h = counted_reads amount b 0 h (omega arith)
 
 -- For every call: the parts of a refusal are its number and line, and those of the answer fit where it is accepted.
-given_reads : {A : Type 0} (refuse : ℕ → ℕ → A) (parts : A → Parts) → ((number line : ℕ) → parts (refuse number line) ≡ refused number line)
-    → (a : A) {o : Outcome} → (o ≡ Accepted → HostReads Accepted (parts a)) → Numbered o → HostReads o (parts (given refuse o a))
-unfolding given
-given_reads refuse parts told a reads none = reads refl
-given_reads refuse parts told a reads (one {number} {line} l h g) = rw (told number line) (refused_reads number line l h g)
+given_reads : {A : Type 0} (parts : A → Parts) (a : A) {o : Outcome} → (o ≡ Accepted → HostReads Accepted (parts a)) → Numbered o → HostReads o (parts_by parts (given o a))
+unfolding parts_by given
+given_reads parts a reads none = reads refl
+given_reads parts a reads (one {number} {line} l h g) = refused_reads number line l h g
+
+-- a number that is counted
+number_reads : (n : ℕ) → n < 2 ^ 24 → HostReads Accepted (number_parts n)
+unfolding number_parts
+number_reads n h = accepted_reads n false h
 
 pub judge_reads : (text : List ℕ) (S : ℕ) (lent : List ℕ) → HostReads (judge_outcome text S lent) (judge_parts (judge_answer text S lent))
-unfolding judge_answer judge_outcome judge_parts verdict_of trace_in
-judge_reads text S lent =
-    given_reads JudgeRefused judge_parts (λ number line. refl) _ (λ _. go (holds (system_in text S))) (asked_numbered text S (trace_in text S) lent)
+unfolding judge_answer judge_outcome judge_parts verdict_parts verdict_of trace_in
+judge_reads text S lent = given_reads verdict_parts _ (λ _. go (holds (system_in text S))) (asked_numbered text S (trace_in text S) lent)
   where
-    go : (b : Bool) → HostReads Accepted (judge_parts (cond b Holds (Broken (length (trace_of (system_in text S))))))
+    go : (b : Bool) → HostReads Accepted (verdict_parts (cond b Holds (Broken (length (trace_of (system_in text S))))))
     go true = accepted_reads 0 true (omega arith)
     go false = accepted_reads (length (trace_of (system_in text S))) false (omega (arith, trace_le text S))
 
 pub reached_reads : (text : List ℕ) (S : ℕ) (lent : List ℕ) → HostReads (reached_outcome text S lent) (reached_parts (reached_answer text S lent))
 unfolding reached_answer reached_outcome reached_parts
-reached_reads text S lent =
-    given_reads ReachedRefused reached_parts (λ number line. refl) _
-    (λ _. accepted_reads (pairs_in text S) false (omega (arith, pairs_le text S))) (asked_numbered text S (marks_in text S) lent)
+reached_reads text S lent = given_reads number_parts _ (λ _. number_reads (pairs_in text S) (omega (arith, pairs_le text S))) (asked_numbered text S (marks_in text S) lent)
 
 pub list_reads : (which : WhichList) (text lent : List ℕ) → HostReads (list_outcome which text lent) (list_parts (list_answer which text lent))
 unfolding list_answer list_parts
-list_reads which text lent =
-    given_reads ListRefused list_parts (λ number line. refl) _
-    (λ _. accepted_reads (length (list_in which text)) false (omega (arith, list_le which text))) (list_numbered which text lent)
+list_reads which text lent = given_reads number_parts _ (λ _. number_reads (length (list_in which text)) (omega (arith, list_le which text))) (list_numbered which text lent)
 
 pub kind_reads : (kind : Kind) (text : List ℕ) → HostReads (text_outcome text) (set_parts (kind_answer kind text))
 unfolding kind_answer set_parts
-kind_reads kind text =
-    given_reads SetRefused set_parts (λ number line. refl) _
-    (λ _. accepted_reads (kind_in kind text) false (omega (arith, kind_lt kind text, pow_mono (rules_most text)))) (text_numbered text)
+kind_reads kind text = given_reads number_parts _ (λ _. number_reads (kind_in kind text) (omega (arith, kind_lt kind text, pow_mono (rules_most text)))) (text_numbered text)
 
 pub one_core_reads : (text order : List ℕ) → HostReads (one_core_outcome text order) (one_core_parts (one_core_answer text order))
-unfolding one_core_answer found_answer one_core_parts
+unfolding one_core_answer one_core_parts found_parts core_parts
 one_core_reads text order =
-    given_reads OneCoreRefused one_core_parts (λ number line. refl) _ (λ e. let f = one_core_fits text order e in go f.0 f.1 (one_core_in text order).holds)
-    (one_core_numbered text order)
+    given_reads found_parts _ (λ e. let f = one_core_fits text order e in go (one_core_in text order).core f.0 f.1) (one_core_numbered text order)
   where
-    go : {S judgements : ℕ} → S < 65536 → judgements ≤ 17 → (b : Bool) → HostReads Accepted (one_core_parts (cond b (CoreFound S judgements) (NoCore judgements)))
-    go s j true = counted_reads _ true _ (omega arith) (omega arith)
-    go s j false = counted_reads 0 false _ (omega arith) (omega arith)
+    go : (core : Option ℕ) → IfSome core (λ C. C < 65536) → {judgements : ℕ} → judgements ≤ 17 → HostReads Accepted (core_parts core judgements)
+    go (Some C) s j = counted_reads C true _ (omega arith) (omega arith)
+    go None s j = counted_reads 0 false _ (omega arith) (omega arith)
 
 pub blame_reads : (text log : List ℕ) → HostReads (blame_outcome text log) (blame_parts (blame_answer text log))
-unfolding blame_answer blamed_answer blame_parts
+unfolding blame_answer blame_parts blamed_parts
 blame_reads text log =
-    given_reads BlameRefused blame_parts (λ number line. refl) _ (λ _. go (ltb (blame_in text log).place (length log))) (blame_numbered text log)
-  where
-    go : (b : Bool) → HostReads Accepted (blame_parts (cond b (BreachAt (blame_in text log).set (blame_in text log).place) (NoBreach (blame_in text log).set (blame_in text log).place)))
-    go true = accepted_reads (blame_in text log).set false (omega (arith, blame_fits text log))
-    go false = accepted_reads (blame_in text log).set true (omega (arith, blame_fits text log))
+    given_reads blamed_parts _ (λ _. accepted_reads (blame_in text log).set (is_none (blame_in text log).breach) (omega (arith, blame_fits text log))) (blame_numbered text log)

@@ -9,7 +9,7 @@ use Rattle.sets.specs.Tabulated.{tabulate}
 use Rattle.sets.specs.Lists.{bytes_of}
 use Rattle.sets.specs.Orders.{is_order}
 use Rattle.sets.specs.OneCore.{one_core_of}
-use Rattle.models.specs.declared.model.Outcome.TheVariants.{Accepted}
+use Rattle.refusals.specs.Answers.{Accepted, Answer, Given, RefusedBy}
 use Rattle.models.specs.Written.{Described, rule_at, Legal, written_model, model_in}
 use Rattle.models.specs.Changed.{starts_written_out}
 use Rattle.models.proofs.Laws.Changed.{length_written_out, written_out_legal}
@@ -27,17 +27,12 @@ use Rattle.semantics.proofs.Laws.Changed.{written_out_start, written_out_step, w
 use Rattle.sorting.specs.declared.which.WhichList.{WhichList}
 use Rattle.sorting.specs.declared.kinds.Kind.{Kind}
 use Rattle.sorting.specs.Which.{listed, of_kind}
-use Rattle.calls.specs.declared.answers.JudgeAnswer.{JudgeAnswer}
-use Rattle.calls.specs.declared.answers.JudgeAnswer.TheVariants.{Refused as JudgeRefused, Holds, Broken}
-use Rattle.calls.specs.declared.answers.ReachedAnswer.TheVariants.{Refused as ReachedRefused, Pairs}
-use Rattle.calls.specs.declared.answers.ListAnswer.TheVariants.{Refused as ListRefused, Count}
-use Rattle.calls.specs.declared.answers.SetAnswer.TheVariants.{Refused as SetRefused, Set}
-use Rattle.preferences.specs.declared.answer.OneCoreAnswer.TheVariants.{Refused as OneCoreRefused}
-use Rattle.preferences.specs.Answer.{one_core_in, order_outcome, one_core_outcome, found_answer, one_core_answer}
+use Rattle.calls.specs.declared.verdict.Verdict.{Verdict}
+use Rattle.calls.specs.declared.verdict.Verdict.TheVariants.{Holds, Broken}
+use Rattle.preferences.specs.Answer.{one_core_in, order_outcome, one_core_outcome, one_core_answer}
 use Rattle.logs.specs.Log.{is_log, blame_of}
 use Rattle.logs.proofs.Laws.Log.{blame_same}
-use Rattle.blaming.specs.declared.answer.BlameAnswer.TheVariants.{Refused as BlameRefused}
-use Rattle.blaming.specs.Answer.{blame_in, log_outcome, init_outcome, blame_outcome, blamed_answer, blame_answer}
+use Rattle.blaming.specs.Answer.{blame_in, log_outcome, init_outcome, blame_outcome, blame_answer}
 use Rattle.calls.specs.Answers.{rules_in, states_in, system_in, judge_in, trace_in, marks_in, pairs_in, list_in, kind_in, ◌or_else◌, refused_if, text_outcome, set_outcome, length_outcome, asked_outcome, judge_outcome, reached_outcome, list_outcome, given, after, verdict_of, judge_answer, judge_bytes, reached_answer, reached_bytes, list_answer, list_bytes, kind_answer}
 use Rattle.codremif.specs.Demand2.{Demand2}
 use Rattle.codremif.specs.PowerUp.{MeetsAtStart, system_by_init, starts_written_in, SameAnswers, PowerUp}
@@ -112,15 +107,15 @@ module _ (text first : List ℕ) (outcome : text_outcome text ≡ text_outcome f
     same_answers : SameAnswers text first
     unfolding judge_answer judge_bytes reached_answer reached_bytes list_answer list_bytes kind_answer one_core_answer blame_answer
     same_answers = record {
-      judged = λ S lent. ap₂ (λ o M. given JudgeRefused o (verdict_of M)) (judge_same S lent) (systems S);
+      judged = λ S lent. ap₂ (λ o M. given o (verdict_of M)) (judge_same S lent) (systems S);
       traced = λ S lent. ap₂ (λ o l. after o l lent) (judge_same S lent) (trace_same S);
-      reached = λ S lent. ap₂ (λ o n. given ReachedRefused o (Pairs n)) (reached_same S lent) (pairs_same S);
+      reached = λ S lent. ap₂ (λ o n. given o n) (reached_same S lent) (pairs_same S);
       marked = λ S lent. ap₂ (λ o l. after o l lent) (reached_same S lent) (marks_same S);
-      counted = λ which lent. ap₂ (λ o l. given ListRefused o (Count (length l))) (listing_same which lent) (list_same which);
+      counted = λ which lent. ap₂ (λ o l. given o (length l)) (listing_same which lent) (list_same which);
       listed = λ which lent. ap₂ (λ o l. after o (bytes_of l) lent) (listing_same which lent) (list_same which);
-      sorted = λ kind. ap₂ (λ o S. given SetRefused o (Set S)) outcome (kind_same kind);
-      ordered = λ order. ap₂ (λ o c. given OneCoreRefused o (found_answer c)) (order_same order) (core_same order);
-      blamed = λ log. ap₂ (λ o b. given BlameRefused o (blamed_answer (length log) b)) (log_same log) (blames log);
+      sorted = λ kind. ap₂ (λ o S. given o S) outcome (kind_same kind);
+      ordered = λ order. ap₂ (λ o c. given o c) (order_same order) (core_same order);
+      blamed = λ log. ap₂ (λ o b. given o b) (log_same log) (blames log);
     }
 
 -- ---- runs of one state
@@ -157,11 +152,11 @@ module _ (text : List ℕ) (model : text_outcome text ≡ Accepted) where
     demand : Demand2 text S lent
     demand = judging_meets_demand2 text model S set lent
 
-    no_start : ((s : ℕ) → s < states_in text → ¬ MeetsAtStart text S s) → judge_answer text S lent ≡ Holds
+    no_start : ((s : ℕ) → s < states_in text → ¬ MeetsAtStart text S s) → judge_answer text S lent ≡ Given Holds
     unfolding system_in system_of states_in
     no_start lacks = demand.held.1 (λ run b. lacks (get_or run 0 0) (b.walk.states 0 b.walk.nonempty) ((starts S (get_or run 0 0)).0 b.walk.first))
 
-    one_shown : judge_answer text S lent ≡ Broken 1 → BadAtStart S
+    one_shown : judge_answer text S lent ≡ Given (Broken 1) → BadAtStart S
     unfolding system_in system_of states_in
     one_shown q =
         let w = breach_one (system_in text S) (take 1 (judge_bytes text S lent)) (demand.exact 1 q) (demand.shown 1 q).breach in
@@ -171,14 +166,14 @@ module _ (text : List ℕ) (model : text_outcome text ≡ Accepted) where
     unfolding system_in system_of states_in
     bad_breach w = one_breach (system_in text S) w.0 w.1 ((starts S w.0).1 w.2) w.3
 
-    shown_there : 1 ≤ length lent → (w : BadAtStart S) → (a : JudgeAnswer) → judge_answer text S lent ≡ a → a ≡ Broken 1
-    shown_there h w (JudgeRefused number line) q =
+    shown_there : 1 ≤ length lent → (w : BadAtStart S) → (a : Answer Verdict) → judge_answer text S lent ≡ a → a ≡ Given (Broken 1)
+    shown_there h w (RefusedBy number line) q =
         let t = (judged (system_in text S)).broken (breach_broken (bad_breach w)) in
         absurd (omega (arith, demand.enough number line q _ t, t.shortest (w.0 ∷ []) (bad_breach w)))
-    shown_there h w Holds q = absurd (demand.held.0 q (w.0 ∷ []) (bad_breach w))
-    shown_there h w (Broken n) q =
+    shown_there h w (Given Holds) q = absurd (demand.held.0 q (w.0 ∷ []) (bad_breach w))
+    shown_there h w (Given (Broken n)) q =
         let t = demand.shown n q in
-        ap Broken (omega (arith, t.shortest (w.0 ∷ []) (bad_breach w), demand.exact n q, t.breach.walk.nonempty))
+        ap (λ (k : ℕ). Given (Broken k)) (omega (arith, t.shortest (w.0 ∷ []) (bad_breach w), demand.exact n q, t.breach.walk.nonempty))
 
   -- ---- a missing start part
 

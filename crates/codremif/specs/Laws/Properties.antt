@@ -10,7 +10,7 @@ use Rattle.sets.specs.Laws.Choice.{alike}
 use Rattle.sets.specs.Laws.Growth.{cores_of_agree}
 use Rattle.sets.proofs.Laws.Joint.{joint_tabulate, joint_cores}
 use Rattle.sets.specs.Laws.Tabulated.{each_tabulate}
-use Rattle.models.specs.declared.model.Outcome.TheVariants.{Accepted}
+use Rattle.refusals.specs.Answers.{Accepted, Given}
 use Rattle.models.specs.Written.{Legal, model_in}
 use Rattle.models.proofs.Accepted.{told_back}
 use Rattle.models.specs.Changed.{by_property}
@@ -24,7 +24,7 @@ use Rattle.semantics.specs.Meaning.{system_of, judge}
 use Rattle.semantics.proofs.Laws.Properties.{judged_jointly}
 use Rattle.sorting.specs.declared.which.WhichList.TheVariants.{Cores}
 use Rattle.sorting.specs.Which.{listed}
-use Rattle.calls.specs.declared.answers.JudgeAnswer.TheVariants.{Broken}
+use Rattle.calls.specs.declared.verdict.Verdict.TheVariants.{Broken}
 use Rattle.calls.specs.Answers.{rules_in, system_in, judge_in, list_in, text_outcome, judge_answer, judge_bytes}
 use Rattle.calls.proofs.Laws.Answers.{judge_enough, verdict_broken}
 use Rattle.calls.proofs.Laws.Sizes.{trace_le}
@@ -38,7 +38,7 @@ use Rattle.codremif.specs.Laws.Telling.{Tells, answers_tell, hosts_tell}
 -- ---- what is shown
 
 -- Judging set S of an accepted text shows its trace, of n states.
-module _ (text : List ℕ) (model : text_outcome text ≡ Accepted) (S : ℕ) (set : S < 2 ^ rules_in text) (lent : List ℕ) (n : ℕ) (e : judge_answer text S lent ≡ Broken n) where
+module _ (text : List ℕ) (model : text_outcome text ≡ Accepted) (S : ℕ) (set : S < 2 ^ rules_in text) (lent : List ℕ) (n : ℕ) (e : judge_answer text S lent ≡ Given (Broken n)) where
   shown_trace : Trace (system_in text S) (take n (judge_bytes text S lent))
   shown_trace = (judging_meets_demand2 text model S set lent).shown n e
 
@@ -113,13 +113,13 @@ module _ (text : List ℕ) (model : text_outcome text ≡ Accepted) where
 
     -- By a property that breaks the set its trace is shown, where enough bytes are lent.
     broken_by : holds (system_of (by_property j (model_in text)) S) ≡ false → (lent : List ℕ) → 128 ≤ length lent
-        → judge_answer (text_by j text) S lent ≡ Broken (length (trace_of (system_of (by_property j (model_in text)) S)))
+        → judge_answer (text_by j text) S lent ≡ Given (Broken (length (trace_of (system_of (by_property j (model_in text)) S))))
     broken_by e lent b =
         (judge_enough (text_by j text) (accepted_by j h) S lent set_by (omega (arith, trace_le (text_by j text) S))).says
-        ∙ rw (system_by_lem j h S) (verdict_broken (system_of (by_property j (model_in text)) S) e)
+        ∙ ap Given (rw (system_by_lem j h S) (verdict_broken (system_of (by_property j (model_in text)) S) e))
 
     -- What is shown by a property is the trace by it.
-    module _ (lent : List ℕ) (n : ℕ) (e : judge_answer (text_by j text) S lent ≡ Broken n) where
+    module _ (lent : List ℕ) (n : ℕ) (e : judge_answer (text_by j text) S lent ≡ Given (Broken n)) where
       is_by : take n (judge_bytes (text_by j text) S lent) ≡ trace_of (system_of (by_property j (model_in text)) S)
       is_by = shown_is (text_by j text) (accepted_by j h) S set_by lent n e ∙ ap trace_of (system_by_lem j h S)
 
@@ -129,7 +129,7 @@ module _ (text : List ℕ) (model : text_outcome text ≡ Accepted) where
       not_held_by : holds (system_of (by_property j (model_in text)) S) ≡ false
       not_held_by = sym (ap holds (system_by_lem j h S)) ∙ shown_broken (text_by j text) (accepted_by j h) S set_by lent n e
 
-  module _ {J L M : Type 0} (w : TextTelling J L M) (t : Tells w) (S : ℕ) (set : S < 2 ^ rules_in text) (lent : List ℕ) (n : ℕ) (few : n ≤ 128) (e : judge_answer text S lent ≡ Broken n) where
+  module _ {J L M : Type 0} (w : TextTelling J L M) (t : Tells w) (S : ℕ) (set : S < 2 ^ rules_in text) (lent : List ℕ) (n : ℕ) (few : n ≤ 128) (e : judge_answer text S lent ≡ Given (Broken n)) where
     first_of : FirstOfTraces (properties_in text) (λ j. system_of (by_property j (model_in text)) S) (trace_of (system_in text S))
     first_of = (jointly S).trace (shown_broken text model S set lent n e)
 
@@ -145,8 +145,8 @@ module _ (text : List ℕ) (model : text_outcome text ≡ Accepted) where
     abbrev within : p < properties_in text
     within = first_of.within
 
-    by_p : (more : List ℕ) → 128 ≤ length more → judge_answer (text_by p text) S more ≡ Broken n
-    by_p more b = broken_by p within S set first_of.broken more b ∙ ap Broken (sym (ap length first_of.its_trace) ∙ run_length)
+    by_p : (more : List ℕ) → 128 ≤ length more → judge_answer (text_by p text) S more ≡ Given (Broken n)
+    by_p more b = broken_by p within S set first_of.broken more b ∙ ap (λ (k : ℕ). Given (Broken k)) (sym (ap length first_of.its_trace) ∙ run_length)
 
     first_shown : FirstShown w text S n (take n (judge_bytes text S lent))
     first_shown = record {

@@ -9,7 +9,7 @@ use Rattle.std.proofs.Math.ListN.{length, get_or, drop, length-append, length-dr
 use Rattle.std.proofs.Math.Seq.{drop-append_seam}
 use Rattle.sets.specs.Lists.{overwritten}
 use Rattle.sets.specs.Laws.Tabulated.{get_d_tabulate}
-use Rattle.models.specs.declared.model.Outcome.TheVariants.{Accepted}
+use Rattle.refusals.specs.Answers.{Accepted, Given}
 use Rattle.models.specs.Written.{model_in}
 use Rattle.systems.specs.System.{System}
 use Rattle.traces.specs.Marked.{is_marked}
@@ -18,14 +18,13 @@ use Rattle.searches.specs.Collecting.{Collecting}
 use Rattle.searches.proofs.Laws.Collecting.{collecting, same_marks}
 use Rattle.semantics.specs.Meaning.{system_of}
 use Rattle.semantics.proofs.Laws.Meaning.{step_zero}
-use Rattle.calls.specs.declared.answers.ReachedAnswer.TheVariants.{Pairs}
 use Rattle.calls.specs.Answers.{Gives, rules_in, states_in, system_in, marks_in, pairs_in, text_outcome, reached_answer, reached_bytes}
 use Rattle.calls.proofs.Laws.Answers.{reached_enough, length_marks}
-use Rattle.packing.specs.Packing.{accepted, reached_parts, packed}
+use Rattle.packing.specs.Packing.{accepted, parts_by, number_parts, reached_parts, packed}
 use Rattle.codremif.specs.Reached.{ReachedStates, EverythingReached}
 
 module _ (text : List ℕ) (model : text_outcome text ≡ Accepted) (S : ℕ) (set : S < 2 ^ rules_in text) (lent : List ℕ) (enough : states_in text ≤ length lent) where
-  gives : Gives (Pairs (pairs_in text S)) (marks_in text S) lent (reached_answer text S lent) (reached_bytes text S lent)
+  gives : Gives (pairs_in text S) (marks_in text S) lent (reached_answer text S lent) (reached_bytes text S lent)
   gives = reached_enough text model S lent set enough
 
   M : System
@@ -76,9 +75,9 @@ module _ (text : List ℕ) (model : text_outcome text ≡ Accepted) (S : ℕ) (s
   }
 
 pub everything_is_reached : (text : List ℕ) → text_outcome text ≡ Accepted → EverythingReached text
-unfolding packed reached_parts accepted
+unfolding packed reached_parts parts_by number_parts accepted
 everything_is_reached text model = record {
-  in_rattle = λ S set lent enough. states text model S set lent enough Pairs (gives text model S set lent enough).says;
+  in_rattle = λ S set lent enough. states text model S set lent enough Given (gives text model S set lent enough).says;
   for_hosts = λ S set lent enough.
       states text model S set lent enough (λ n. 65536 * n)
       (ap (λ a. packed (reached_parts a)) (gives text model S set lent enough).says ∙ omega arith);

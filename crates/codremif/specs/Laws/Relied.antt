@@ -26,7 +26,7 @@ use Rattle.sets.specs.Laws.Kept.{map_kept, kept_kept, old_onto}
 use Rattle.sets.proofs.Laws.Renumbered.{Reduced, relevant_reduced, none_irrelevant}
 use Rattle.exprs.specs.Expr.{Expr}
 use Rattle.lines.specs.Written.{Rule, LegalExpr, LegalStart}
-use Rattle.models.specs.declared.model.Outcome.TheVariants.{Accepted}
+use Rattle.refusals.specs.Answers.{Accepted, Given}
 use Rattle.models.specs.Written.{Described, Legal, names_of, written_model, model_in}
 use Rattle.models.proofs.Accepted.{told_back}
 use Rattle.models.specs.Changed.{keeping, replacing}
@@ -37,9 +37,9 @@ use Rattle.sorting.specs.declared.which.WhichList.{WhichList}
 use Rattle.sorting.specs.declared.which.WhichList.TheVariants.{Cores, Cuts}
 use Rattle.sorting.specs.Which.{listed, of_kind}
 use Rattle.sorting.specs.declared.kinds.Kind.TheVariants.{Must, May}
-use Rattle.calls.specs.declared.answers.JudgeAnswer.TheVariants.{Holds}
+use Rattle.calls.specs.declared.verdict.Verdict.TheVariants.{Holds}
 use Rattle.calls.specs.Answers.{rules_in, judge_in, list_in, kind_in, text_outcome, judge_answer}
-use Rattle.packing.specs.Packing.{accepted, set_parts, packed}
+use Rattle.packing.specs.Packing.{accepted, parts_by, number_parts, set_parts, packed}
 use Rattle.codremif.specs.Relied.{InOneOf, SortedRules, names_in, relevant_in, relevant_model, SameByName, Reducible, Replaceable, Relied}
 use Rattle.calls.proofs.Laws.Answers.{kind_given}
 use Rattle.codremif.specs.Laws.Written.{written_accepted, written_rules, written_judge, told_legal}
@@ -132,7 +132,7 @@ reducible text model i m =
 -- ---- a rule outside MUST
 
 module _ (text : List ℕ) (model : text_outcome text ≡ Accepted) where
-  replaceable : (lent : List ℕ) → judge_answer text (full (rules_in text)) lent ≡ Holds → (i : ℕ) → i < rules_in text → has (kind_in Must text) i ≡ false
+  replaceable : (lent : List ℕ) → judge_answer text (full (rules_in text)) lent ≡ Given Holds → (i : ℕ) → i < rules_in text → has (kind_in Must text) i ≡ false
       → (step : Expr) → LegalExpr (model_in text).vars true step → (start : Option Expr) → LegalStart (model_in text).vars start → Replaceable text i step start
   unfolding rules_in kind_in of_kind judge_in
   replaceable lent all i h n step le start ls =
@@ -155,7 +155,7 @@ module _ (text : List ℕ) (model : text_outcome text ≡ Accepted) where
 
 module _ (text : List ℕ) (model : text_outcome text ≡ Accepted) where
   sorted_rules : SortedRules text
-  unfolding kind_in of_kind list_in listed set_parts packed accepted
+  unfolding kind_in of_kind list_in listed set_parts parts_by number_parts packed accepted
   sorted_rules =
       let R : ℕ = rules_in text in
       let h : ℕ → Bool = judge_in text in

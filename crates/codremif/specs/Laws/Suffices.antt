@@ -8,16 +8,16 @@ use Rattle.std.proofs.lemmas.List.{length-replicate}
 use Rattle.std.proofs.Math.Seq.{take_at}
 use Rattle.sets.specs.Lists.{bytes_of, overwritten}
 use Rattle.sets.specs.Laws.Lists.{length_bytes_of}
-use Rattle.models.specs.declared.model.Outcome.TheVariants.{Accepted}
+use Rattle.refusals.specs.Answers.{Accepted, Given, Answer}
 use Rattle.semantics.specs.Meaning.{judge}
 use Rattle.sorting.specs.declared.which.WhichList.{WhichList}
 use Rattle.sorting.specs.declared.which.WhichList.TheVariants.{Cores, Cuts}
 use Rattle.sorting.specs.Which.{listed}
-use Rattle.lookup.specs.declared.answer.SufficesAnswer.{SufficesAnswer}
+use Rattle.lookup.specs.declared.answer.Suffices.{Suffices}
 use Rattle.lookup.specs.Suffices.{suffices_answer, part_said, witness_of, SufficesTelling, by_answer, SaidOf}
 use Rattle.lookup.specs.Laws.Suffices.{Ways, odd_way, inside_way, apart_way, unlisted_way, ways, said_of, answer_said}
 use Rattle.lookup.specs.Laws.Lists.{held_said, broken_said}
-use Rattle.calls.specs.declared.answers.JudgeAnswer.TheVariants.{Holds, Broken}
+use Rattle.calls.specs.declared.verdict.Verdict.TheVariants.{Holds, Broken}
 use Rattle.calls.specs.Answers.{rules_in, system_in, judge_in, trace_in, list_in, text_outcome, judge_answer, list_bytes}
 use Rattle.packing.specs.Packing.{InRange, accepted, refused, judge_parts, suffices_parts, witness_place, packed}
 use Rattle.codremif.specs.Demand3.{in_rattle, for_hosts, GivesList}
@@ -37,13 +37,13 @@ module _ (S : ℕ) (cores cuts : List ℕ) where
   unfolding by_answer suffices_parts accepted refused
   suffices_range = go (ways S cores cuts)
     where
-      go : {a : SufficesAnswer} → Ways by_answer S cores cuts a → InRange (suffices_parts a)
+      go : {a : Answer Suffices} → Ways by_answer S cores cuts a → InRange (suffices_parts a)
       go (odd_way n e) = rw e (omega arith)
       go (inside_way v p s e) = rw e (omega arith)
       go (apart_way v n p s e) = rw e (omega arith)
       go (unlisted_way v n m e) = rw e (omega arith)
 
-  host_ways : {a : SufficesAnswer} → Ways by_answer S cores cuts a → Ways by_hosts S cores cuts (host_said a)
+  host_ways : {a : Answer Suffices} → Ways by_answer S cores cuts a → Ways by_hosts S cores cuts (host_said a)
   unfolding by_answer by_hosts host_said suffices_parts accepted refused packed witness_place
   host_ways (odd_way n e) = odd_way n (ap host_said e)
   host_ways (inside_way v p s e) = inside_way v p s (ap host_said e)
@@ -130,20 +130,20 @@ module _ (text : List ℕ) (model : text_outcome text ≡ Accepted) where
 
   pub answer_wrote : (which : WhichList) (list : List ℕ) → WroteList text_by_answers which text list → list ≡ bytes_of (list_in which text)
   unfolding text_by_answers in_rattle
-  answer_wrote = wrote text_by_answers (list_given text model) (λ n m e. cc) (λ n e. let z : ◌≡◌ {A = ℕ} 0 1 = cc in omega arith)
+  answer_wrote = wrote text_by_answers (list_given text model) (λ n m e. cc) (λ n e. cc)
 
   pub host_wrote : (which : WhichList) (list : List ℕ) → WroteList text_by_hosts which text list → list ≡ bytes_of (list_in which text)
   unfolding text_by_hosts for_hosts
   host_wrote = wrote text_by_hosts (list_packed text model) (λ n m e. omega arith) (λ n e. omega arith)
 
   module _ (S : ℕ) (rules : S < 2 ^ rules_in text) where
-    held_judged : judge_in text S ≡ true → (lent : List ℕ) → judge_answer text S lent ≡ Holds
+    held_judged : judge_in text S ≡ true → (lent : List ℕ) → judge_answer text S lent ≡ Given Holds
     held_judged e lent = (by_call text model S rules lent).0 e
 
-    pub broken_judged : judge_in text S ≡ false → (lent : List ℕ) → 128 ≤ length lent → (n : ℕ) × (n ≤ 128) × (judge_answer text S lent ≡ Broken n)
+    pub broken_judged : judge_in text S ≡ false → (lent : List ℕ) → 128 ≤ length lent → (n : ℕ) × (n ≤ 128) × (judge_answer text S lent ≡ Given (Broken n))
     unfolding judge_in judge system_in trace_in
     broken_judged e lent h =
-        (length (trace_in text S), trace_le text S, (judge_enough text model S lent rules (omega (arith, trace_le text S))).says ∙ verdict_broken (system_in text S) e)
+        (length (trace_in text S), trace_le text S, (judge_enough text model S lent rules (omega (arith, trace_le text S))).says ∙ ap Given (verdict_broken (system_in text S) e))
 
     said_held : {A : Type 0} (t : SufficesTelling A) {answer : A} → SaidOf t S (bytes_of (list_in Cores text)) (bytes_of (list_in Cuts text)) answer
         → judge_in text S ≡ true → (place : ℕ) × (answer ≡ t.inside place)
@@ -162,7 +162,7 @@ module _ (text : List ℕ) (model : text_outcome text ≡ Accepted) where
         rw (answer_wrote Cores cores a, answer_wrote Cuts cuts b)
         (let said = answer_said S (bytes_of (list_in Cores text)) (bytes_of (list_in Cuts text)) in
         agreed text_by_answers by_answer text S _
-        (λ n l e. let z : ◌≡◌ {A = ℕ} 0 1 = cc in omega arith)
+        (λ n l e. cc)
         (λ p q e. let z : ◌≡◌ {A = ℕ} 0 1 = cc in omega arith)
         (judge_in text S)
         (λ e. (said_held by_answer said e, held_judged e))

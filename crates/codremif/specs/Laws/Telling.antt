@@ -3,13 +3,13 @@
 use Rattle.std.specs.Prelude.{ℕ, ◌*◌, ◌≤◌, ◌≡◌, refl, ◌↔◌, List}
 use Rattle.std.proofs.Common.{sym, ap, ◌∙◌, arith}
 use Rattle.sets.specs.Lists.{bytes_of}
-use Rattle.models.specs.declared.model.Outcome.TheVariants.{Accepted}
+use Rattle.refusals.specs.Answers.{Accepted, Answer, Given, RefusedBy}
 use Rattle.sorting.specs.declared.which.WhichList.{WhichList}
-use Rattle.calls.specs.declared.answers.JudgeAnswer.{JudgeAnswer}
-use Rattle.calls.specs.declared.answers.JudgeAnswer.TheVariants.{Refused as JudgeRefused, Holds, Broken}
+use Rattle.calls.specs.declared.verdict.Verdict.{Verdict}
+use Rattle.calls.specs.declared.verdict.Verdict.TheVariants.{Holds, Broken}
 use Rattle.calls.specs.Answers.{system_in, judge_in, list_in, text_outcome, verdict_of, judge_answer}
-use Rattle.calls.proofs.Laws.Answers.{given_accepted, not_refused}
-use Rattle.packing.specs.Packing.{accepted, refused, judge_parts, packed}
+use Rattle.calls.proofs.Laws.Answers.{given_accepted}
+use Rattle.packing.specs.Packing.{accepted, refused, parts_by, verdict_parts, judge_parts, packed}
 use Rattle.codremif.specs.Demand3.{in_rattle, for_hosts, Judges}
 use Rattle.codremif.specs.Suffices.{TextTelling, text_by_answers, text_by_hosts, WroteList}
 use Rattle.codremif.specs.Laws.Host.{judge_reads}
@@ -19,7 +19,7 @@ use Rattle.codremif.specs.Laws.Suffices.{answer_wrote, host_wrote}
 -- What theorems about a text need of how calls tell their answers.
 pub record Tells {J L M : Type 0} (w : TextTelling J L M) : Type 0 where
   pub judges : (text : List ℕ) → text_outcome text ≡ Accepted → Judges w.calls text (judge_in text)
-  pub broken : (text : List ℕ) (S : ℕ) (lent : List ℕ) (n : ℕ) → n ≤ 128 → (w.calls.judge text S lent ≡ w.broken n) ↔ (judge_answer text S lent ≡ Broken n)
+  pub broken : (text : List ℕ) (S : ℕ) (lent : List ℕ) (n : ℕ) → n ≤ 128 → (w.calls.judge text S lent ≡ w.broken n) ↔ (judge_answer text S lent ≡ Given (Broken n))
   pub wrote : (text : List ℕ) → text_outcome text ≡ Accepted → (which : WhichList) (list : List ℕ) → WroteList w which text list → list ≡ bytes_of (list_in which text)
 
 pub answers_tell : Tells text_by_answers
@@ -31,22 +31,22 @@ answers_tell = record {
 }
 
 -- A refusal has a number other than 0.
-refused_some : (text : List ℕ) (S : ℕ) (lent : List ℕ) {number line : ℕ} → judge_answer text S lent ≡ JudgeRefused number line → number ≡ 0 → ⊥
-unfolding judge_answer judge_parts refused
+refused_some : (text : List ℕ) (S : ℕ) (lent : List ℕ) {number line : ℕ} → judge_answer text S lent ≡ RefusedBy number line → number ≡ 0 → ⊥
+unfolding judge_answer judge_parts parts_by refused
 refused_some text S lent {number} {line} q z =
     let accepted = (judge_reads text S lent).zero.0 (ap (λ a. (judge_parts a).number) q ∙ z) in
-    not_refused (system_in text S) number line (sym (given_accepted JudgeRefused (verdict_of (system_in text S)) accepted) ∙ q)
+    let e = sym (given_accepted (verdict_of (system_in text S)) accepted) ∙ q in cc
 
 -- A packed answer of so many times 65,536 is that of a trace of so many states.
 broken_packed : (text : List ℕ) (S : ℕ) (lent : List ℕ) (n : ℕ) → n ≤ 128
-    → (packed (judge_parts (judge_answer text S lent)) ≡ 65536 * n) ↔ (judge_answer text S lent ≡ Broken n)
-unfolding packed judge_parts accepted refused
+    → (packed (judge_parts (judge_answer text S lent)) ≡ 65536 * n) ↔ (judge_answer text S lent ≡ Given (Broken n))
+unfolding packed judge_parts parts_by verdict_parts accepted refused
 broken_packed text S lent n h = (go (judge_answer text S lent) refl, λ e. ap (λ a. packed (judge_parts a)) e ∙ omega arith)
   where
-    go : (a : JudgeAnswer) → judge_answer text S lent ≡ a → packed (judge_parts a) ≡ 65536 * n → a ≡ Broken n
-    go Holds q e = absurd (omega arith)
-    go (Broken m) q e = ap Broken (omega arith)
-    go (JudgeRefused number line) q e =
+    go : (a : Answer Verdict) → judge_answer text S lent ≡ a → packed (judge_parts a) ≡ 65536 * n → a ≡ Given (Broken n)
+    go (Given Holds) q e = absurd (omega arith)
+    go (Given (Broken m)) q e = ap (λ k. Given (Broken k)) (omega arith)
+    go (RefusedBy number line) q e =
         let r = (judge_reads text S lent).range in
         let few = ap (λ a. (judge_parts a).number) q in
         let short = ap (λ a. (judge_parts a).line) q in

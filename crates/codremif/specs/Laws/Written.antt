@@ -3,7 +3,7 @@
 use Rattle.std.specs.Prelude.{ℕ, ◌≡◌, refl, List}
 use Rattle.std.proofs.Math.Path.{ap}
 use Rattle.std.proofs.Math.ListN.{length}
-use Rattle.models.specs.declared.model.Outcome.TheVariants.{Accepted}
+use Rattle.refusals.specs.Answers.{Accepted}
 use Rattle.models.specs.Written.{Described, Legal, written_model, model_in}
 use Rattle.models.proofs.Accepted.{accepts_what_is_written, told, told_back}
 use Rattle.semantics.specs.Meaning.{system_of, judge}

@@ -259,6 +259,7 @@ module _ (R : ℕ) (h : ℕ → Bool) (unknown cores cuts : List ℕ) where
       pub seed_growable : h S ≡ false → Growable R h unknown S
       seed_growable e =
           record {
+            few = g.few;
             room = g.room_unknown;
             broken = e;
             below = s.below;

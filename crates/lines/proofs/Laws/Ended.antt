@@ -1,13 +1,15 @@
 -- What `end_of` answers, and from it each way out of a function that reads a line: the same for counts, for expressions and for rule lines.
--- From the definitions of `Lines` alone.
-use Rattle.std.specs.Prelude.{ℕ, zero, suc, ◌+◌, ◌-◌, ◌<◌, ◌≡◌, refl, ◌≢◌, Bool, true, false, cond, List, drop}
+-- From the definitions of `Lines` and the numbers of the reasons.
+use Rattle.std.specs.Prelude.{ℕ, zero, suc, ◌+◌, ◌-◌, ◌<◌, ◌≡◌, refl, ◌≢◌, Bool, true, false, cond, eqb, ◌≤◌, List, drop, Option, Some, None}
+use Rattle.std.specs.Option.{option_map_or}
 use Rattle.std.proofs.Common.{sym, ◌∙◌, arith}
 use Rattle.std.proofs.Math.Path.{ap}
 use Rattle.std.proofs.Math.ListN.{length, take}
-use Rattle.lines.specs.declared.line.Line.TheVariants.{Read}
-use Rattle.lines.specs.declared.line.End.{End}
-use Rattle.lines.specs.declared.line.End.TheVariants.{At, Missing}
-use Rattle.lines.specs.Lines.{line_length, is_line, end_of, value_of, says, unless_fault}
+use Rattle.std.proofs.lemmas.Bool.Decides.{nat_tests}
+use Rattle.std.proofs.Math.Dec.{eqb-suc-zero}
+use Rattle.refusals.specs.declared.refusal.Reason.{Reason}
+use Rattle.refusals.specs.Numbers.{number_of}
+use Rattle.lines.specs.Lines.{Fault, Read, line_length, is_line, end_of, value_of, says, unless_fault, count_in, count_or_none, counted, count_line, fault_of, state_line}
 use Rattle.lines.proofs.Laws.Heard.{line_within}
 
 -- the line that s begins with has the key and ends at `end`
@@ -15,25 +17,21 @@ pub record Ended (key s : List ℕ) (end : ℕ) : Type 0 where
   pub line : is_line key s ≡ true
   pub length_is : end ≡ line_length s
 
-by_line : (key s : List ℕ) (t : Bool) → is_line key s ≡ t → (end : ℕ) → cond t (At (line_length s)) Missing ≡ At end → Ended key s end
+by_line : (key s : List ℕ) (t : Bool) → is_line key s ≡ t → (end : ℕ) → cond t (Some (line_length s)) None ≡ Some end → Ended key s end
 by_line key s true q end h = record { line = q; length_is = cc }
-by_line key s false q end h = let z : ◌≡◌ {A = ℕ} 0 1 = cc in absurd (omega arith)
+by_line key s false q end h = cc
 
-pub ended : {key s : List ℕ} {r : End} {end : ℕ} → r ≡ end_of key s → r ≡ At end → Ended key s end
+pub ended : {key s : List ℕ} {r : Option ℕ} {end : ℕ} → r ≡ end_of key s → r ≡ Some end → Ended key s end
 unfolding end_of
 ended {key} {s} {r} {end} said told = by_line key s (is_line key s) refl end (sym said ∙ told)
 
-by_none : (key s : List ℕ) (t : Bool) → is_line key s ≡ t → cond t (At (line_length s)) Missing ≡ Missing → is_line key s ≡ false
-by_none key s true q h = let z : ◌≡◌ {A = ℕ} 0 1 = cc in absurd (omega arith)
+by_none : (key s : List ℕ) (t : Bool) → is_line key s ≡ t → cond t (Some (line_length s)) None ≡ None → is_line key s ≡ false
+by_none key s true q h = cc
 by_none key s false q h = q
 
-pub no_end : (key s : List ℕ) {r : End} → r ≡ end_of key s → r ≡ Missing → is_line key s ≡ false
+pub no_end : (key s : List ℕ) {r : Option ℕ} → r ≡ end_of key s → r ≡ None → is_line key s ≡ false
 unfolding end_of
 no_end key s said told = by_none key s (is_line key s) refl (sym said ∙ told)
-
--- number 1, whatever the line would say
-pub no_line : {A : Type 0} (fault otherwise : A) (key s : List ℕ) {r : End} → r ≡ end_of key s → r ≡ Missing → fault ≡ cond (is_line key s) otherwise fault
-no_line fault otherwise key s said told = rw (no_end key s said told)
 
 -- an expression that a number refuses
 pub faulted : {A : Type 0} (fault : ℕ → A) (number : ℕ) (read : A) → number ≢ 0 → unless_fault fault number read ≡ fault number
@@ -49,10 +47,54 @@ module _ {key s : List ℕ} {end : ℕ} (e : Ended key s end) where
   unfolding value_of
   value_is = ap (λ n. take (n - length key) (drop (length key) s)) e.length_is
 
-  pub says_is : (v : ℕ) → Read v (end + 1) ≡ says v s
-  unfolding says
-  says_is v = ap (λ n. Read v (n + 1)) e.length_is
+-- ---- a line read by where it ends
 
-  -- the answer goes on behind number 1
-  pub on_line_lem : {A : Type 0} (fault l : A) {otherwise : A} → otherwise ≡ l → l ≡ cond (is_line key s) otherwise fault
-  on_line_lem fault l q = rw e.line (sym q)
+-- what it says, where it ends; and how it is refused, where it has no end
+pub by_end : {A : Type 0} (key s : List ℕ) (f : List ℕ → ℕ → A) (fault : A)
+    → cond (is_line key s) (f (value_of key s) (line_length s)) fault
+    ≡ option_map_or (λ end. f (take (end - length key) (drop (length key) s)) end) (end_of key s) fault
+unfolding end_of value_of
+by_end {A} key s f fault = go (is_line key s)
+  where
+    go : (t : Bool)
+        → cond t (f (take (line_length s - length key) (drop (length key) s)) (line_length s)) fault
+        ≡ option_map_or (λ end. f (take (end - length key) (drop (length key) s)) end) (cond t (Some (line_length s)) None) fault
+    go true = refl
+    go false = refl
+
+counted_is : (n : ℕ) (s : List ℕ) → counted n s ≡ option_map_or (λ k. Read k (line_length s + 1)) (count_or_none n) (Fault 2)
+unfolding counted says
+counted_is zero s = refl
+counted_is (suc n) s = refl
+
+pub count_by_end : (key : List ℕ) (most : ℕ) (s : List ℕ)
+    → count_line key most s
+    ≡ option_map_or (λ end. option_map_or (λ n. Read n (end + 1)) (count_or_none (count_in most (take (end - length key) (drop (length key) s)))) (Fault 2)) (end_of key s) (Fault 1)
+unfolding count_line
+count_by_end key most s =
+    ap (λ l. cond (is_line key s) l (Fault 1)) (counted_is (count_in most (value_of key s)) s)
+    ∙ by_end key s (λ v end. option_map_or (λ n. Read n (end + 1)) (count_or_none (count_in most v)) (Fault 2)) (Fault 1)
+
+pub state_by_end : (key : List ℕ) (vars : ℕ) (s : List ℕ)
+    → state_line key vars s
+    ≡ option_map_or (λ end. unless_fault Fault (fault_of vars false (take (end - length key) (drop (length key) s))) (Read (length key) (end + 1))) (end_of key s) (Fault 1)
+unfolding state_line says
+state_by_end key vars s = by_end key s (λ v end. unless_fault Fault (fault_of vars false v) (Read (length key) (end + 1))) (Fault 1)
+
+-- what a line says of which an expression is judged first
+pub unless_fault_is : {A : Type 0} (fault : ℕ → A) (number : ℕ) (read : A) → unless_fault fault number read ≡ cond (eqb number 0) read (fault number)
+unfolding unless_fault
+unless_fault_is fault zero read = refl
+unless_fault_is fault (suc number) read = rw eqb-suc-zero
+
+-- no reason has the number 0
+pub number_from_one : (reason : Reason) → 1 ≤ number_of reason
+number_from_one reason = grind arith
+
+-- the bytes of a line are fewer than those of the text
+pub end_below : (key s : List ℕ) (end : ℕ) → end_of key s ≡ Some end → end < length s
+end_below key s end q = end_within (ended {key = key} {s = s} refl q)
+
+pub ruleset counts_by_end = (count_by_end, end_below)
+
+pub ruleset states_by_end = (state_by_end, end_below, unless_fault_is, number_from_one, nat_tests)

@@ -4,11 +4,9 @@ use Rattle.std.specs.Prelude.{ℕ, zero, suc, ◌+◌, ◌≤◌, ◌<◌, ◌�
 use Rattle.std.proofs.Math.Bool.{and-eq-true_iff}
 use Rattle.std.proofs.Common.{arith, ltb-true}
 use Rattle.sets.specs.Laws.Choice.{by_test}
-use Rattle.lines.specs.declared.line.Line.{Line}
-use Rattle.lines.specs.declared.line.Line.TheVariants.{Fault, Read}
 use Rattle.slices.specs.Same.{same}
 use Rattle.lines.specs.Decimal.{decimal}
-use Rattle.lines.specs.Lines.{line_length, is_line, value_of, says, unless_fault, count_in, counted, count_line, fault_of, state_line}
+use Rattle.lines.specs.Lines.{Line, Fault, Read, line_length, is_line, value_of, says, unless_fault, count_in, counted, count_line, fault_of, state_line}
 use Rattle.lines.specs.Written.{Within}
 use Rattle.lines.proofs.Laws.Numbers.{by_expression}
 
@@ -18,13 +16,13 @@ pub record SaysWithin (s : List ℕ) (most v bytes : ℕ) : Type 0 where
   pub within : Within 1 (length s) bytes
 
 -- A line of the text s is refused by a number of 1 to 8, or says at most `most`.
-pub data Heard (s : List ℕ) (most : ℕ) : Line → Type 0 where
+pub data Heard (s : List ℕ) (most : ℕ) : Line ℕ → Type 0 where
   fault : (number : ℕ) → Within 1 8 number → Heard s most (Fault number)
   said : {v bytes : ℕ} → SaysWithin s most v bytes → Heard s most (Read v bytes)
 
 -- a line that was read is not refused
-pub says_of : {s : List ℕ} {most : ℕ} {l : Line} {v bytes : ℕ} → Heard s most l → l ≡ Read v bytes → SaysWithin s most v bytes
-says_of (fault number h) q = let z : ◌≡◌ {A = ℕ} 0 1 = cc in absurd (omega arith)
+pub says_of : {s : List ℕ} {most : ℕ} {l : Line ℕ} {v bytes : ℕ} → Heard s most l → l ≡ Read v bytes → SaysWithin s most v bytes
+says_of (fault number h) q = cc
 says_of {s} {most} {v = v} {bytes} (said {v = w} {bytes = c} h) q =
     let p : w ≡ v = cc in
     let r : c ≡ bytes = cc in

@@ -15,11 +15,10 @@ use Rattle.std.proofs.Math.Seq.{take-append_seam, drop-append_seam, split_at}
 use Rattle.sets.specs.Laws.Choice.{by_test}
 use Rattle.exprs.specs.Expr.{written}
 use Rattle.lines.specs.declared.classes.Class.TheVariants.{InLine}
-use Rattle.lines.specs.declared.line.Line.TheVariants.{Fault, Read}
 use Rattle.lines.specs.Bytes.{belongs, prefix}
 use Rattle.slices.specs.Same.{same}
 use Rattle.lines.specs.Decimal.{digits_in, decimal}
-use Rattle.lines.specs.Lines.{vars_key, rules_key, init_key, prop_key, line_length, is_line, value_of, says, unless_fault, count_in, counted, count_line, all, fault_of, state_line}
+use Rattle.lines.specs.Lines.{Fault, Read, vars_key, rules_key, init_key, prop_key, line_length, is_line, value_of, says, unless_fault, count_in, counted, count_line, all, fault_of, state_line}
 use Rattle.lines.specs.Written.{Within, LegalExpr, line}
 use Rattle.lines.specs.Laws.Bytes.{all_nil, all_append, all_more, prefix_all, prefix_seam, all_prefix, prefix_ends}
 use Rattle.slices.specs.Laws.Same.{same_true, same_false, same_is}
@@ -51,8 +50,8 @@ unfolding unless_fault
 unfaulted fault number l z = rw z
 
 -- a line that is read is not refused
-not_read : (v bytes number : ℕ) → Fault number ≡ Read v bytes → ⊥
-not_read v bytes number q = let z : ◌≡◌ {A = ℕ} 0 1 = cc in omega arith
+not_read : {A : Type 0} (v : A) (bytes number : ℕ) → Fault number ≡ Read v bytes → ⊥
+not_read v bytes number q = cc
 
 -- ---- a line
 
@@ -146,7 +145,7 @@ counted_more (suc n) s h = refl
 
 counted_back : (n : ℕ) (s : List ℕ) {v bytes : ℕ} → counted n s ≡ Read v bytes → (m : ℕ) × (n ≡ suc m)
 unfolding counted says
-counted_back zero s h = let z : ◌≡◌ {A = ℕ} 0 1 = cc in absurd (omega arith)
+counted_back zero s h = cc
 counted_back (suc n) s h = (n, refl)
 
 -- a smaller greatest count only leaves counts out

@@ -1,8 +1,10 @@
 -- Which number refuses an expression, by cases: the first test that is failed tells it. The theorem of the crate `models` about the first number that
 -- fits rests on this for the order within a line. From the definitions of `Lines`.
-use Rattle.std.specs.Prelude.{ℕ, ◌≡◌, refl, Bool, true, false, ◌&&◌, List, leb, length}
+use Rattle.std.specs.Prelude.{ℕ, ◌≡◌, refl, Bool, true, false, cond, ◌&&◌, List, leb, length}
 use Rattle.std.proofs.Common.{sym, subst}
-use Rattle.lines.specs.declared.classes.Class.TheVariants.{InExpression, Allowed}
+use Rattle.std.proofs.lemmas.Bool.Decides.{nat_tests}
+use Rattle.lines.specs.Laws.Bytes.{all_in_expression_of}
+use Rattle.lines.specs.declared.classes.Class.TheVariants.{InExpression, Allowed, InExpressionOf}
 use Rattle.lines.specs.Lines.{all, is_one, fault_of}
 
 pub tested : {X : Type 0} (t : Bool) → (t ≡ true → X) → (t ≡ false → X) → X
@@ -52,3 +54,16 @@ module _ (n : ℕ) (capitals : Bool) (e : List ℕ) where
       (λ c. subst P (sym (x.by_letter a b c)) (seven a b c)))
       (λ b. subst P (sym (x.by_byte a b)) (six a b)))
       (λ a. subst P (sym (x.by_length a)) (five a))
+
+  -- The tests in the order in which a legal expression is gone over once: whether the bytes are those of expressions is looked at where a byte or a letter is wrong.
+  pub fault_by_tests : fault_of n capitals e
+      ≡ cond sized (cond (all (InExpressionOf n capitals) e) (cond (is_one e) 0 8) (cond (all InExpression e) 7 6)) 5
+  fault_by_tests =
+      by_expression (λ number. number ≡ cond sized (cond (all (InExpressionOf n capitals) e) (cond (is_one e) 0 8) (cond (all InExpression e) 7 6)) 5)
+      (λ a. rw a)
+      (λ a b. rw (a, all_in_expression_of n capitals e, b))
+      (λ a b c. rw (a, all_in_expression_of n capitals e, b, c))
+      (λ a b c d. rw (a, all_in_expression_of n capitals e, b, c, d))
+      (λ a b c d. rw (a, all_in_expression_of n capitals e, b, c, d))
+
+pub ruleset by_tests = (fault_by_tests, nat_tests)

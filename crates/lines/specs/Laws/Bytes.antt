@@ -5,6 +5,7 @@ use Rattle.std.proofs.Common.{sym, ap, ap₂, ◌∙◌, arith, ne_eqb}
 use Rattle.std.proofs.Math.Bool.{and-false, and_assoc, and-eq-true_iff}
 use Rattle.std.proofs.lemmas.Bool.{false≢true}
 use Rattle.std.proofs.Math.Dec.{eqb-suc-suc, eqb-zero-suc}
+use Rattle.std.proofs.lemmas.List.Sums.{prefix_len-le-length, prefix_len_stops}
 use Rattle.sets.specs.Laws.Choice.{by_test}
 use Rattle.lines.specs.declared.classes.Class.{Class}
 use Rattle.lines.specs.declared.classes.Class.TheVariants.{InLine, InPart, InExpression, Allowed, InExpressionOf}
@@ -21,8 +22,8 @@ all_cons : (c : Class) (b : ℕ) (s : List ℕ) → all c (b ∷ s) ≡ (belongs
 unfolding all prefix
 all_cons c b s = go (belongs c b)
   where
-    go : (t : Bool) → eqb (cond t (suc (prefix c s)) 0) (suc (length s)) ≡ (t && eqb (prefix c s) (length s))
-    go true = eqb-suc-suc (prefix c s) (length s)
+    go : (t : Bool) → eqb (cond t (1 + prefix c s) 0) (suc (length s)) ≡ (t && eqb (prefix c s) (length s))
+    go true = let on : 1 + prefix c s ≡ suc (prefix c s) = omega arith in rw on (eqb-suc-suc (prefix c s) (length s))
     go false = eqb-zero-suc (length s)
 
 pub all_append : (c : Class) (s t : List ℕ) → all c (s ++ t) ≡ (all c s && all c t)
@@ -73,8 +74,7 @@ all_in_part = all_others 58 InPart (λ b. refl)
 
 pub prefix_le : (c : Class) (s : List ℕ) → prefix c s ≤ length s
 unfolding prefix
-prefix_le c [] = omega arith
-prefix_le c (b ∷ s) = by_test (λ k. k ≤ suc (length s)) (belongs c b) (λ _. omega (arith, prefix_le c s)) (λ _. omega arith)
+prefix_le c s = prefix_len-le-length (belongs c) s
 
 pub prefix_all : (c : Class) (s t : List ℕ) → all c s ≡ true → prefix c (s ++ t) ≡ length s + prefix c t
 unfolding prefix
@@ -90,10 +90,12 @@ pub all_prefix : (c : Class) (s : List ℕ) → all c (take (prefix c s) s) ≡ 
 unfolding prefix
 all_prefix c [] = all_nil c
 all_prefix c (b ∷ s) =
-    by_test (λ k. all c (take k (b ∷ s)) ≡ true) (belongs c b) (λ p. all_more c b (take (prefix c s) s) p (all_prefix c s)) (λ _. all_nil c)
+    by_test (λ k. all c (take k (b ∷ s)) ≡ true) (belongs c b)
+    (λ p.
+    let on : 1 + prefix c s ≡ suc (prefix c s) = omega arith in
+    rw on (all_more c b (take (prefix c s) s) p (all_prefix c s)))
+    (λ _. all_nil c)
 
 pub prefix_ends : (c : Class) (s : List ℕ) → prefix c s < length s → belongs c (get_or s (prefix c s) 0) ≡ false
 unfolding prefix
-prefix_ends c [] = λ h. absurd (omega arith)
-prefix_ends c (b ∷ s) =
-    by_test (λ k. k < suc (length s) → belongs c (get_or (b ∷ s) k 0) ≡ false) (belongs c b) (λ p h. prefix_ends c s (omega arith)) (λ p _. p)
+prefix_ends c s h = prefix_len_stops (belongs c) s 0 h

@@ -1,10 +1,12 @@
 -- The laws of a log: that the functions which compute give what a log says, how it is found step by step, when bytes are a log, and that rules and bad
 -- states which agree on the log's states give the same. From the laws of sets and of least numbers. Assumes nothing.
-use Rattle.std.specs.Prelude.{ℕ, suc, ◌+◌, ◌≤◌, ◌<◌, ◌≡◌, ◌↔◌, Bool, true, false, ◌||◌, List, leb, ltb, length, get_or}
+use Rattle.std.specs.Prelude.{ℕ, suc, ◌+◌, ◌≤◌, ◌<◌, ◌≡◌, ◌↔◌, Bool, true, false, ◌||◌, List, Option, Some, None, IfSome, IfNone, cond, leb, ltb, length, get_or}
+use Rattle.std.specs.List.{position_or_len}
 use Rattle.std.proofs.Math.Path.{refl, sym, ap, ap₂}
-use Rattle.std.proofs.Common.{◌∙◌, arith, ltb-true, lt-ltb, le-leb}
+use Rattle.std.proofs.Common.{◌∙◌, arith, ltb-true, ltb-false, lt-ltb, le-leb}
 use Rattle.std.proofs.Math.Logic.{⊎_elim}
 use Rattle.std.proofs.Math.Bool.{not, or-false, or_assoc, and-eq-true_iff}
+use Rattle.std.proofs.lemmas.List.Sums.{position_or_len_is, prefix_len-le-length, fails_before_first, passes_at_first}
 use Rattle.std.proofs.lemmas.Bool.{false≢true, lt-leb, not-true}
 use mathlib.Mathlib.Data.Bool.Basic.{or_inr}
 use Rattle.sets.specs.Bit.{has}
@@ -13,7 +15,7 @@ use Rattle.sets.specs.Laws.Bit.{has_below}
 use Rattle.sets.specs.Laws.Choice.{either}
 use Rattle.sets.specs.Laws.Gathered.{set_of_lt, has_set_of, set_of_same}
 use Rattle.systems.specs.Least.{least, any}
-use Rattle.systems.specs.Laws.Least.{IsLeast, least_is_least, least_only, least_same, any_intro, any_elim, any_none, any_same, any_next}
+use Rattle.systems.specs.Laws.Least.{any_intro, any_elim, any_none, any_same, any_next}
 use Rattle.logs.specs.Log.{IsLog, is_log, BrokenIn, broken_at_start, broken_at_step, LogSays, is_broken, neighbours, blamed_set, breach_place, blame_of}
 
 -- ---- what a log says
@@ -46,6 +48,13 @@ module _ (start_met : ℕ → ℕ → Bool) (step_met : ℕ → ℕ → ℕ → 
   unfolding is_broken
   broken_start i e = rw e
 
+-- The place of a bad state that has none before it, if there is one.
+record FirstBad (bad : ℕ → Bool) (log : List ℕ) (breach : Option ℕ) : Type 0 where
+  within : IfSome breach (λ place. place < length log)
+  breaks : IfSome breach (λ place. bad (get_or log place 0) ≡ true)
+  before : IfSome breach (λ place. (k : ℕ) → k < place → bad (get_or log k 0) ≡ false)
+  none : IfNone breach ((k : ℕ) → k < length log → bad (get_or log k 0) ≡ false)
+
 module _ (R : ℕ) (start_met : ℕ → ℕ → Bool) (step_met : ℕ → ℕ → ℕ → Bool) (bad : ℕ → Bool) (log : List ℕ) where
   -- So it is one of the blamed ones wherever a part of it fails,
   blamed_step : (i k : ℕ) → i < R → suc k < length log → step_met i (get_or log k 0) (get_or log (suc k) 0) ≡ false → has (blame_of R start_met step_met bad log).set i ≡ true
@@ -64,20 +73,49 @@ module _ (R : ℕ) (start_met : ℕ → ℕ → Bool) (step_met : ℕ → ℕ �
       let l = has_below R (set_of R broken) i (set_of_lt R broken) e in
       (l, broken_only start_met step_met log i (sym (has_set_of R broken i l) ∙ e))
 
-  -- The place is that of the first bad state, or the log's length.
-  place_first : IsLeast (length log) (λ k. bad (get_or log k 0)) (blame_of R start_met step_met bad log).place
-  unfolding blame_of breach_place
-  place_first = least_is_least (length log) (λ k. bad (get_or log k 0))
+  -- The place is that of the first bad state.
+  place_first : FirstBad bad log (breach_place bad log)
+  unfolding breach_place
+  place_first = go (ltb first (length log)) refl
+    where
+      first : ℕ
+      first = position_or_len bad log
+
+      go : (b : Bool) → ltb first (length log) ≡ b → FirstBad bad log (cond b (Some first) None)
+      go true e = record {
+        within = ltb-true first (length log) e;
+        breaks = passes_at_first bad log 0 (ltb-true first (length log) e);
+        before = λ k h. fails_before_first bad log k 0 h;
+        none = tt;
+      }
+      go false e = record {
+        within = tt;
+        breaks = tt;
+        before = tt;
+        none = λ k h. fails_before_first bad log k 0 (omega (arith, ltb-false first (length log) e));
+      }
 
   pub log_says : LogSays R start_met step_met bad log (blame_of R start_met step_met bad log)
+  unfolding blame_of
   log_says = record {
     at_start = blamed_start;
     at_step = blamed_step;
     only = blamed_only;
     within = place_first.within;
-    breaks = place_first.passes;
+    breaks = place_first.breaks;
     before = place_first.before;
+    none = place_first.none;
   }
+
+-- Bad states that agree on the log have the same first place.
+position_same : (bad bad₁ : ℕ → Bool) (log : List ℕ) → ((k : ℕ) → k < length log → bad (get_or log k 0) ≡ bad₁ (get_or log k 0))
+    → position_or_len bad log ≡ position_or_len bad₁ log
+position_same bad bad₁ log same =
+    let m : ℕ = position_or_len bad₁ log in
+    let within : m ≤ length log = prefix_len-le-length (λ s. not (bad₁ s)) log in
+    position_or_len_is bad log m 0 within
+    (λ k h. same k (omega arith) ∙ fails_before_first bad₁ log k 0 h)
+    (λ h. same m h ∙ passes_at_first bad₁ log 0 h)
 
 -- ---- how it is found step by step
 
@@ -96,15 +134,10 @@ module _ (start_met : ℕ → ℕ → Bool) (step_met : ℕ → ℕ → ℕ → 
       ap (λ b. not (start_met i (get_or log 0 0)) || b) (sym (any_next k (fails start_met step_met log i)))
       ∙ sym (or_assoc (not (start_met i (get_or log 0 0))) (any k (fails start_met step_met log i)) (fails start_met step_met log i k))
 
--- A bad state with none before it, or the end where there is none.
-pub is_breach_place : (bad : ℕ → Bool) (log : List ℕ) {place : ℕ} → IsLeast (length log) (λ k. bad (get_or log k 0)) place → place ≡ breach_place bad log
-unfolding breach_place
-is_breach_place bad log first = sym (least_only first)
-
-pub both_said : (R : ℕ) (start_met : ℕ → ℕ → Bool) (step_met : ℕ → ℕ → ℕ → Bool) (bad : ℕ → Bool) (log : List ℕ) {B place : ℕ}
-    → B ≡ blamed_set R start_met step_met log → place ≡ breach_place bad log → record { set = B; place = place } ≡ blame_of R start_met step_met bad log
+pub both_said : (R : ℕ) (start_met : ℕ → ℕ → Bool) (step_met : ℕ → ℕ → ℕ → Bool) (bad : ℕ → Bool) (log : List ℕ) {B : ℕ} {breach : Option ℕ}
+    → B ≡ blamed_set R start_met step_met log → breach ≡ breach_place bad log → record { set = B; breach = breach } ≡ blame_of R start_met step_met bad log
 unfolding blame_of
-both_said R start_met step_met bad log e f = ap₂ (λ (B p : ℕ). record { set = B; place = p }) e f
+both_said R start_met step_met bad log e f = ap₂ (λ (B : ℕ) (p : Option ℕ). record { set = B; breach = p }) e f
 
 -- ---- when bytes are a log
 
@@ -147,6 +180,6 @@ module _ (R : ℕ) (start_met startMet₁ : ℕ → ℕ → Bool) (step_met step
   pub blame_same : blame_of R start_met step_met bad log ≡ blame_of R startMet₁ stepMet₁ bad₁ log
   unfolding blame_of blamed_set breach_place is_broken
   blame_same =
-      ap₂ (λ (B p : ℕ). record { set = B; place = p })
+      ap₂ (λ (B p : ℕ). record { set = B; breach = cond (ltb p (length log)) (Some p) None })
       (set_of_same R _ _ (λ i h. ap₂ (λ a b. not a || b) (start i h) (any_same (neighbours log) (λ k g. ap not (step i k h ((neighbours_iff log k).0 g))))))
-      (least_same refl same-bad)
+      (position_same bad bad₁ log same-bad)

@@ -1,7 +1,7 @@
 -- In the core list and the cut list of any monotone judgement, a set that holds has a core inside and a broken one has a cut apart, and no set of the
 -- rules is unlisted. From the duality of cores and cuts (`sets`), and from where the sets of a list stand in its bytes.
 use Prim.Native.Nat.{ℕ, zero, suc, ◌^◌, ◌≤◌, ◌<◌}
-use Rattle.std.specs.Prelude.{◌≡◌, ◌↔◌, Bool, true, false}
+use Rattle.std.specs.Prelude.{◌≡◌, ◌↔◌, Bool, true, false, Option, Some, None}
 use Rattle.std.proofs.Math.Path.{refl, sym}
 use Rattle.std.proofs.Common.{◌∙◌, true≢false, arith, pow_mono}
 use mathlib.Core.List.Memᴰ
@@ -14,8 +14,6 @@ use Rattle.sets.specs.Laws.Lists.{length_bytes_of}
 use Rattle.sets.specs.Demand3.{◌∈◌}
 use Rattle.sets.specs.Laws.Listed.{cores_of_lists, cuts_of_lists}
 use Rattle.sets.proofs.Laws.Duality.{duality}
-use Rattle.lookup.specs.declared.search.Found.{Found}
-use Rattle.lookup.specs.declared.search.Found.TheVariants.{At, Nowhere}
 use Rattle.lookup.specs.Search.{first_in, set_at_byte, Stands, StandsFirst, NoneStands}
 use Rattle.lookup.specs.Suffices.{SufficesTelling, EvenCounts, SaidOf}
 use Rattle.lookup.specs.Laws.Search.{behind, ahead_of, found_iff, nowhere_iff}
@@ -52,9 +50,9 @@ a_first : (q : ℕ → Bool) (P : ℕ → Type 0) → ((S : ℕ) → (q S ≡ tr
     → (first : ℕ) × StandsFirst P list first
 a_first q P means list place s = go (first_in q list) refl
   where
-    go : (f : Found) → first_in q list ≡ f → (first : ℕ) × StandsFirst P list first
-    go (At first) e = (first, (found_iff q P means list first).0 e)
-    go Nowhere e = absurd ((nowhere_iff q P means list).0 e place s)
+    go : (f : Option ℕ) → first_in q list ≡ f → (first : ℕ) × StandsFirst P list first
+    go (Some first) e = (first, (found_iff q P means list first).0 e)
+    go None e = absurd ((nowhere_iff q P means list).0 e place s)
 
 -- ---- the lists of a judgement
 

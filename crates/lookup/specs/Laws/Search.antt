@@ -1,29 +1,27 @@
--- What `first_in` gives is the first listed set that is meant, and `Nowhere` where there is none; tests that agree on every set of two bytes find the
+-- What `first_in` gives is the first listed set that is meant, and `None` where there is none; tests that agree on every set of two bytes find the
 -- same. By induction on the list, two bytes at a time.
 use Prim.Native.Nat.{ℕ, zero, suc, ◌+◌, ◌*◌, ◌≤◌, ◌<◌}
-use Rattle.std.specs.Prelude.{◌≡◌, ◌↔◌, Bool, true, false, cond, length, get_or, drop}
+use Rattle.std.specs.Prelude.{◌≡◌, ◌↔◌, Bool, true, false, cond, Option, Some, None, length, get_or, drop}
 use Rattle.std.proofs.Math.Path.{refl, ap}
 use Rattle.std.proofs.Common.{sym, ◌∙◌, true≢false, arith, length-drop, drop-cons}
 use mathlib.Core.List.{List, [], ◌∷◌}
 use Rattle.sets.specs.Laws.Choice.{by_test}
-use Rattle.lookup.specs.declared.search.Found.{Found}
-use Rattle.lookup.specs.declared.search.Found.TheVariants.{At, Nowhere}
 use Rattle.lookup.specs.Search.{first_from, first_in, set_at_byte, Stands, StandsFirst, NoneStands}
 
 -- ---- the search as it goes on
 
 -- It goes on two bytes at a time.
 pub first_step : (q : ℕ → Bool) (list : List ℕ) (place : ℕ) → suc place < length list
-    → first_from q place (drop place list) ≡ cond (q (set_at_byte list place)) (At place) (first_from q (suc (suc place)) (drop (suc (suc place)) list))
+    → first_from q place (drop place list) ≡ cond (q (set_at_byte list place)) (Some place) (first_from q (suc (suc place)) (drop (suc (suc place)) list))
 unfolding first_from set_at_byte
 first_step q list place h = rw (drop-cons list place 0 (omega arith), drop-cons list (suc place) 0 (omega arith))
 
 -- It ends where fewer than two bytes are left.
-pub first_end : (q : ℕ → Bool) (list : List ℕ) (place : ℕ) → length list ≤ suc place → first_from q place (drop place list) ≡ Nowhere
+pub first_end : (q : ℕ → Bool) (list : List ℕ) (place : ℕ) → length list ≤ suc place → first_from q place (drop place list) ≡ None
 unfolding first_from
 first_end q list place h = go (drop place list) (omega (arith, length-drop place list))
   where
-    go : (rest : List ℕ) → length rest < 2 → first_from q place rest ≡ Nowhere
+    go : (rest : List ℕ) → length rest < 2 → first_from q place rest ≡ None
     go [] l = refl
     go (odd ∷ []) l = refl
     go (low ∷ high ∷ rest) l = absurd (omega arith)
@@ -39,10 +37,10 @@ first_agree p q place e (low ∷ high ∷ rest) f =
 
 -- ---- the first listed set that is meant
 
-at_same : {place other : ℕ} → At place ≡ At other → place ≡ other
+at_same : {place other : ℕ} → Some place ≡ Some other → place ≡ other
 at_same e = cc
 
-nowhere_at : {place : ℕ} → ¬ (Nowhere ≡ At place)
+nowhere_at : {place : ℕ} → ¬ (None ≡ Some place)
 nowhere_at e = let z : ◌≡◌ {A = ℕ} 0 1 = cc in omega arith
 
 -- There is one first place.
@@ -64,9 +62,9 @@ module _ {P : ℕ → Type 0} {low high : ℕ} {rest : List ℕ} {place : ℕ} w
 
 module _ (q : ℕ → Bool) (P : ℕ → Type 0) (means : (S : ℕ) → (q S ≡ true) ↔ P S) where
   -- What is found in the bytes of a list from place n on.
-  data Tells (n : ℕ) (list : List ℕ) (f : Found) : Type 0 where
-    told : (place : ℕ) → f ≡ At (n + place) → StandsFirst P list place → Tells n list f
-    none : f ≡ Nowhere → NoneStands P list → Tells n list f
+  data Tells (n : ℕ) (list : List ℕ) (f : Option ℕ) : Type 0 where
+    told : (place : ℕ) → f ≡ Some (n + place) → StandsFirst P list place → Tells n list f
+    none : f ≡ None → NoneStands P list → Tells n list f
 
   -- A list whose first set is not P.
   module _ {low high : ℕ} {rest : List ℕ} (passed : q (low + 256 * high) ≡ false) where
@@ -77,9 +75,9 @@ module _ (q : ℕ → Bool) (P : ℕ → Type 0) (means : (S : ℕ) → (q S ≡
     ahead (suc (suc before)) s =
         (before, refl, ahead_of s)
 
-    further : (n : ℕ) (f : Found) → Tells (suc (suc n)) rest f → Tells n (low ∷ high ∷ rest) f
+    further : (n : ℕ) (f : Option ℕ) → Tells (suc (suc n)) rest f → Tells n (low ∷ high ∷ rest) f
     further n f (told place e s) =
-        told (suc (suc place)) (e ∙ ap At (omega arith)) (record {
+        told (suc (suc place)) (e ∙ ap Some (omega arith)) (record {
           there = behind s.there;
           none_before = λ before l t. let a = ahead before t in s.none_before a.0 (omega (arith, a.1)) a.2;
         })
@@ -91,27 +89,27 @@ module _ (q : ℕ → Bool) (P : ℕ → Type 0) (means : (S : ℕ) → (q S ≡
   tells n (odd ∷ []) = none refl (λ place s. absurd (omega (arith, s.within)))
   tells n (low ∷ high ∷ rest) =
       by_test (Tells n (low ∷ high ∷ rest)) (q (low + 256 * high))
-      (λ e. told 0 (ap At (omega arith)) (record {
+      (λ e. told 0 (ap Some (omega arith)) (record {
         there = record { even = omega arith; within = omega arith; itself = (means (low + 256 * high)).0 e };
         none_before = λ before l. absurd (omega arith);
       }))
       (λ e. further e n _ (tells (suc (suc n)) rest))
 
-  pub found_iff : (list : List ℕ) (place : ℕ) → (first_in q list ≡ At place) ↔ StandsFirst P list place
+  pub found_iff : (list : List ℕ) (place : ℕ) → (first_in q list ≡ Some place) ↔ StandsFirst P list place
   unfolding first_in
   found_iff list place = go (first_from q 0 list) (tells 0 list)
     where
-      go : (f : Found) → Tells 0 list f → (f ≡ At place) ↔ StandsFirst P list place
+      go : (f : Option ℕ) → Tells 0 list f → (f ≡ Some place) ↔ StandsFirst P list place
       go f (told other e s) = (
         λ a. let same : other ≡ place = omega (arith, at_same (sym e ∙ a)) in rw same at s,
-        λ t. e ∙ ap At (omega (arith, one_place s t)),
+        λ t. e ∙ ap Some (omega (arith, one_place s t)),
       )
       go f (none e s) = (λ a. absurd (nowhere_at (sym e ∙ a)), λ t. absurd (s place t.there))
 
-  pub nowhere_iff : (list : List ℕ) → (first_in q list ≡ Nowhere) ↔ NoneStands P list
+  pub nowhere_iff : (list : List ℕ) → (first_in q list ≡ None) ↔ NoneStands P list
   unfolding first_in
   nowhere_iff list = go (first_from q 0 list) (tells 0 list)
     where
-      go : (f : Found) → Tells 0 list f → (f ≡ Nowhere) ↔ NoneStands P list
+      go : (f : Option ℕ) → Tells 0 list f → (f ≡ None) ↔ NoneStands P list
       go f (told other e s) = (λ a. absurd (nowhere_at (sym a ∙ e)), λ n. absurd (n other s.there))
       go f (none e s) = (λ a. s, λ n. e)

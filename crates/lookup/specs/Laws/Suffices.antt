@@ -1,18 +1,16 @@
 -- What two lists say of a set is what is said to be there, however it is told. From the laws of the search, by the four ways in which a set can be
 -- looked up. Assumes nothing.
-use Rattle.std.specs.Prelude.{ℕ, ◌+◌, ◌%◌, ◌^◌, ◌≡◌, ◌↔◌, true, false, ◌||◌, List, eqb, length}
+use Rattle.std.specs.Prelude.{ℕ, ◌+◌, ◌%◌, ◌^◌, ◌≡◌, ◌↔◌, true, false, ◌||◌, Option, Some, None, List, eqb, length}
 use Rattle.std.proofs.Math.Path.{refl, ap₂}
 use Rattle.std.proofs.Common.{sym, ap, ◌∙◌, arith, eqb-true}
 use Rattle.std.proofs.Math.Bool.{Bool, cond}
 use Rattle.std.proofs.lemmas.Bool.{eqb-false}
-use Rattle.sets.specs.Sets.{◌⊑◌, Shares}
+use Rattle.sets.specs.Sets.{◌⊑◌, Shares, part, apart}
 use Rattle.sets.specs.Laws.Sets.{part_iff, apart_tells}
-use Rattle.lookup.specs.declared.answer.SufficesAnswer.{SufficesAnswer}
-use Rattle.lookup.specs.declared.answer.SufficesAnswer.TheVariants.{Refused, CoreInside, CutApart, Unlisted}
-use Rattle.lookup.specs.declared.search.Fit.TheVariants.{Inside, Apart}
-use Rattle.lookup.specs.declared.search.Found.{Found}
-use Rattle.lookup.specs.declared.search.Found.TheVariants.{At, Nowhere}
-use Rattle.lookup.specs.Search.{first_in, fits, StandsFirst, NoneStands}
+use Rattle.refusals.specs.Answers.{Answer, RefusedBy, Given}
+use Rattle.lookup.specs.declared.answer.Suffices.{Suffices}
+use Rattle.lookup.specs.declared.answer.Suffices.TheVariants.{CoreInside, CutApart, Unlisted}
+use Rattle.lookup.specs.Search.{first_in, StandsFirst, NoneStands}
 use Rattle.lookup.specs.Suffices.{said_by, looked_up, odd_count, suffices_answer, SufficesTelling, by_answer, EvenCounts, SaidOf}
 use Rattle.lookup.specs.Laws.Search.{found_iff, nowhere_iff, one_place}
 
@@ -28,27 +26,27 @@ pub data Ways {A : Type 0} (t : SufficesTelling A) (S : ℕ) (cores cuts : List 
       → answer ≡ t.unlisted → Ways t S cores cuts answer
 
 module _ (S : ℕ) (cores cuts : List ℕ) where
-  looked_ways : EvenCounts cores cuts → suffices_answer S cores cuts ≡ looked_up S cores cuts → Ways by_answer S cores cuts (suffices_answer S cores cuts)
-  unfolding by_answer looked_up said_by fits
-  looked_ways even e = by_core (first_in (fits Inside S) cores) refl (first_in (fits Apart S) cuts) refl
+  looked_ways : EvenCounts cores cuts → suffices_answer S cores cuts ≡ Given (looked_up S cores cuts) → Ways by_answer S cores cuts (suffices_answer S cores cuts)
+  unfolding by_answer looked_up said_by
+  looked_ways even e = by_core (first_in (λ C. part C S) cores) refl (first_in (λ C. apart C S) cuts) refl
     where
-      by_core : (core : Found) → first_in (fits Inside S) cores ≡ core → (cut : Found) → first_in (fits Apart S) cuts ≡ cut
+      by_core : (core : Option ℕ) → first_in (λ C. part C S) cores ≡ core → (cut : Option ℕ) → first_in (λ C. apart C S) cuts ≡ cut
           → Ways by_answer S cores cuts (suffices_answer S cores cuts)
-      by_core (At place) p cut q =
-          inside_way even place ((found_iff _ _ (λ C. part_iff C S) cores place).0 p) (e ∙ ap₂ said_by p q)
-      by_core Nowhere p (At place) q =
+      by_core (Some place) p cut q =
+          inside_way even place ((found_iff _ _ (λ C. part_iff C S) cores place).0 p) (e ∙ ap₂ (λ (a b : Option ℕ). Given (said_by a b)) p q)
+      by_core None p (Some place) q =
           apart_way even ((nowhere_iff _ _ (λ C. part_iff C S) cores).0 p) place ((found_iff _ _ (λ C. apart_tells C S) cuts place).0 q)
-          (e ∙ ap₂ said_by p q)
-      by_core Nowhere p Nowhere q =
+          (e ∙ ap₂ (λ (a b : Option ℕ). Given (said_by a b)) p q)
+      by_core None p None q =
           unlisted_way even ((nowhere_iff _ _ (λ C. part_iff C S) cores).0 p) ((nowhere_iff _ _ (λ C. apart_tells C S) cuts).0 q)
-          (e ∙ ap₂ said_by p q)
+          (e ∙ ap₂ (λ (a b : Option ℕ). Given (said_by a b)) p q)
 
   pub ways : Ways by_answer S cores cuts (suffices_answer S cores cuts)
   unfolding suffices_answer odd_count by_answer
   ways = go (eqb (length cores % 2) 1) refl (eqb (length cuts % 2) 1) refl
     where
-      tested : Bool → Bool → SufficesAnswer
-      tested a b = cond (a || b) (Refused 12 0) (looked_up S cores cuts)
+      tested : Bool → Bool → Answer Suffices
+      tested a b = cond (a || b) (RefusedBy 12 0) (Given (looked_up S cores cuts))
 
       go : (a : Bool) → eqb (length cores % 2) 1 ≡ a → (b : Bool) → eqb (length cuts % 2) 1 ≡ b → Ways by_answer S cores cuts (suffices_answer S cores cuts)
       go true p b q = odd_way (λ even. omega (arith, even.of_cores, eqb-true (length cores % 2) 1 p)) (ap₂ tested p q)
@@ -108,17 +106,17 @@ module _ {A : Type 0} {t : SufficesTelling A} {code place : A → ℕ} (d : Told
   said_of w = record { odd = odd_said w; inside = inside_said w; apart = apart_said w; unlisted = unlisted_said w }
 
 -- The answer itself tells them apart.
-code_of : SufficesAnswer → ℕ
-code_of (Refused number line) = number
-code_of (CoreInside place) = 65536 + 2 ^ 40
-code_of (CutApart place) = 131072
-code_of Unlisted = 0
+code_of : Answer Suffices → ℕ
+code_of (RefusedBy number line) = number
+code_of (Given (CoreInside place)) = 65536 + 2 ^ 40
+code_of (Given (CutApart place)) = 131072
+code_of (Given Unlisted) = 0
 
-place_of : SufficesAnswer → ℕ
-place_of (Refused number line) = 0
-place_of (CoreInside place) = place
-place_of (CutApart place) = place
-place_of Unlisted = 0
+place_of : Answer Suffices → ℕ
+place_of (RefusedBy number line) = 0
+place_of (Given (CoreInside place)) = place
+place_of (Given (CutApart place)) = place
+place_of (Given Unlisted) = 0
 
 pub answer_said : (S : ℕ) (cores cuts : List ℕ) → SaidOf by_answer S cores cuts (suffices_answer S cores cuts)
 unfolding by_answer code_of place_of

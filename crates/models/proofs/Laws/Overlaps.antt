@@ -6,8 +6,7 @@ use mathlib.Core.List.{List, [], ◌∷◌, map, Memᴰ}
 use Rattle.exprs.specs.Token.{token_of}
 use Rattle.exprs.specs.Expr.{size}
 use Rattle.lines.specs.Bytes.{belongs}
-use Rattle.models.specs.declared.model.Outcome.{Outcome}
-use Rattle.models.specs.declared.model.Outcome.TheVariants.{Refused}
+use Rattle.refusals.specs.Answers.{Outcome, Refused, outcome_of}
 use Rattle.models.specs.Reading.{read_model}
 use Rattle.models.specs.Overlaps.{Overlap, overlaps, Overlapping}
 use Rattle.models.specs.Laws.Numbers.{numbers_on, numbers_fit}
@@ -33,7 +32,7 @@ record Found : Type 0 where
 
 computed : Overlap → Found
 unfolding read_model numbers_on is_member
-computed c = record { outcome = (read_model c.text).outcome; also = is_member c.other (numbers_on c.text c.other_line) }
+computed c = record { outcome = outcome_of (read_model c.text); also = is_member c.other (numbers_on c.text c.other_line) }
 
 expected : Overlap → Found
 expected c = record { outcome = Refused c.number c.line; also = true }

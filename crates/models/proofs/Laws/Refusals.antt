@@ -1,41 +1,37 @@
 -- The reading of any text has the right outcome: where it refuses the text, the number and the line are the first that fit, and where it accepts the
 -- text none fits. From the laws of single lines, along the lines of the text.
 use Prim.Native.Nat.{ℕ, zero, suc, ◌+◌, ◌-◌, ◌≤◌, ◌<◌}
-use Rattle.std.specs.Prelude.{◌≡◌, ◌≢◌, true, false, ◌&&◌, ◌||◌}
+use Rattle.std.specs.Prelude.{◌≡◌, ◌≢◌, true, ◌&&◌, get_or, take}
 use Rattle.std.proofs.Math.Path.{refl, ap, subst}
-use Rattle.std.proofs.Common.{sym, ap₂, ◌∙◌, inl, inr, ⊎_elim, add-one, eq-eqb, ne_eqb, drop_of_length-le, length-drop, drop-cons, drop-drop}
+use Rattle.std.proofs.Common.{sym, ap₂, ◌∙◌, inl, inr, ⊎_elim, add-one, drop_of_length-le, length-drop, drop-cons, drop-drop}
 use Rattle.std.proofs.Math.Bool.{Bool}
-use Rattle.std.proofs.lemmas.Bool.{false≢true}
 use mathlib.Core.List.{List, [], ◌∷◌, ◌++◌, append_assoc, flat_map}
 use native.Mathlib.Omega.{arith}
 use Rattle.std.proofs.Math.Decide.{dec_lt}
 use Rattle.std.proofs.Math.ListN.{length, drop}
 use Rattle.lines.specs.declared.classes.Class.TheVariants.{InLine}
-use Rattle.lines.specs.declared.line.Line.{Line}
-use Rattle.rule_lines.specs.declared.names.RuleLine.{RuleLine}
-use Rattle.slices.specs.Same.{same}
-use Rattle.lines.specs.Lines.{vars_key, rules_key, init_key, prop_key, rule_key, line_length, all}
-use Rattle.rule_lines.specs.RuleLines.{name_of, is_taken}
+use Rattle.rule_lines.specs.declared.names.RuleParts.{RuleParts}
+use Rattle.refusals.specs.Answers.{Outcome, Accepted, Refused, Answer, RefusedBy, Given, outcome_of}
+use Rattle.lines.specs.Lines.{Line, vars_key, rules_key, init_key, prop_key, rule_key, line_length, all}
+use Rattle.rule_lines.specs.RuleLines.{no_parts, name_of, is_taken}
 use Rattle.lines.specs.Written.{Rule, LegalRule, written_parts, written_rule}
 use Rattle.lines.specs.Laws.Bytes.{all_append}
-use Rattle.slices.specs.Laws.Same.{same_is}
 use Rattle.lines.proofs.Laws.Lines.{line_append}
 use Rattle.rule_lines.proofs.Laws.RuleLines.{rule_in_line, rule_key_in_line}
 use Rattle.bodies.specs.declared.progress.LineStart.{LineStart}
+use Rattle.bodies.specs.declared.progress.LineRead.{LineRead}
 use Rattle.bodies.specs.declared.progress.Progress.{Progress}
 use Rattle.bodies.specs.Properties.{after_line, property_count}
-use Rattle.bodies.specs.Body.{behind_line, none_read, unless_refused, propertied, next_property, properties_read, ruled, next_rule, rules_read}
+use Rattle.bodies.specs.Body.{behind_line, following, unless_refused, none_read, with_property, propertied, next_property, properties_read, with_rule, ruled, next_rule, rules_read}
+use Rattle.bodies.specs.Laws.Answered.{given_of}
 use Rattle.bodies.specs.Laws.Lines.{line_dropped, line_seam}
-use Rattle.models.specs.declared.model.Outcome.{Outcome}
-use Rattle.models.specs.declared.model.Outcome.TheVariants.{Accepted, Refused}
-use Rattle.models.specs.declared.model.Reading.{Reading}
-use Rattle.models.specs.Reading.{text_start, refused_reading, following, finished, read_model}
+use Rattle.models.specs.declared.model.Model.{Model}
+use Rattle.models.specs.Reading.{text_start, on_line, body_read, finished, behind_init, read_model}
 use Rattle.models.specs.Written.{rule_at}
-use Rattle.models.specs.Refusals.{after_lines, vars_line, rules_line, first_rule_line, init_line, prop_line, IsN, IsR, HasName, FitsAt, bytes_follow, First}
+use Rattle.models.specs.Refusals.{after_lines, CountLine, vars_line, rules_line, first_rule_line, StateLine, init_line, prop_line, GivesCount, IsN, IsR, HasName, FitsAt, bytes_follow, First}
 use Rattle.models.specs.Laws.Lines.{lines_more, lines_add}
-use Rattle.models.proofs.Laws.Finished.{by_last}
-use Rattle.models.proofs.Laws.Ranges.{place₂, place₃, place₄}
-use Rattle.models.specs.Laws.Rules.{taken_back, PlaceArrays, Ruled, rules_back}
+use Rattle.models.proofs.Laws.Finished.{last_numbers}
+use Rattle.models.specs.Laws.Rules.{taken_back, taken_there, PlaceArrays, Ruled, rules_back}
 use Rattle.models.specs.Laws.Properties.{properties_room}
 use Rattle.models.specs.Laws.Grounds.{in_line_unbroken}
 use Rattle.models.specs.Laws.Fitting.{one_name, fits_least, fits_behind, LineJudged, line_refused, line_passed, count_judged, state_judged, RuleJudged, rule_refused, rule_passed, TellsNames, rule_judged}
@@ -104,14 +100,14 @@ pub data RightOutcome (text : List ℕ) : Outcome → Type 0 where
   none_fits : ((number line : ℕ) → ¬ FitsAt text number line) → RightOutcome text Accepted
   first_fits : {number line : ℕ} → First text number line → RightOutcome text (Refused number line)
 
-following_right : (text : List ℕ) (p : LineStart) (Says : ℕ → Type 0) (next : ℕ → LineStart → Reading) {l : Line} → Stands text p → Clear text p.line
+following_right : (text : List ℕ) (p : LineStart) (Says : ℕ → Type 0) (next : LineRead ℕ → Answer Model) {l : Line ℕ} → Stands text p → Clear text p.line
     → LineJudged text p.line (drop p.at text) Says l
-    → ((v bytes : ℕ) → Says v → Stands text (behind_line p bytes) → Clear text (p.line + 1) → RightOutcome text (next v (behind_line p bytes)).outcome)
-    → RightOutcome text (following p l next).outcome
-unfolding following
+    → ((h : LineRead ℕ) → Says h.value → Stands text h.place → h.place.line ≡ p.line + 1 → Clear text h.place.line → RightOutcome text (outcome_of (next h)))
+    → RightOutcome text (outcome_of (unless_refused (following p l) next))
+unfolding following unless_refused behind_line
 following_right text p Says next st clear (line_refused {number} f least some) go = first_fits (first_on text number p.line clear f least)
 following_right text p Says next st clear (line_passed {v} s none) go =
-    go v (line_length (drop p.at text) + 1) s (stands_next st) (clear_more text p.line clear none)
+    go (record { value = v; place = behind_line p (line_length (drop p.at text) + 1) }) s (stands_next st) refl (clear_more text p.line clear none)
 
 -- ---- the names of the rule lines
 
@@ -137,64 +133,47 @@ after_rules n h (r ∷ rs) l rest (suc j) b =
     ∙ ap (after_lines j) (line_seam (rule_key ++ (r.name ++ 58 ∷ written_parts r)) more w.1)
     ∙ after_rules n h rs (λ i k. l (suc i) (omega arith)) rest j (omega arith)
 
-is_taken_lem : (text names steps name : List ℕ) (i : ℕ) → is_taken text names steps i name ≡ true → (j : ℕ) × (j < i) × (name_of text names steps j ≡ name)
-unfolding is_taken
-is_taken_lem text names steps name zero t = absurd (false≢true t)
-is_taken_lem text names steps name (suc i) t = go (is_taken text names steps i name) (is_taken_lem text names steps name i) t
-  where
-    go : (b : Bool) → (b ≡ true → (j : ℕ) × (j < i) × (name_of text names steps j ≡ name)) → (b || same (name_of text names steps i) name) ≡ true
-        → (j : ℕ) × (j < suc i) × (name_of text names steps j ≡ name)
-    go true f t = let w = f refl in (w.0, omega (arith, w.1), w.2)
-    go false f t = (i, omega arith, same_is (name_of text names steps i) name t)
-
 -- ---- the lines behind `init`
 
 -- After the lines before line k: no number fits so far, and line k begins at the place; or the first number that fits is found.
-data PartsJudged (text : List ℕ) (k : ℕ) (r : Progress) : Type 0 where
-  parts_passed : r.number ≡ 0 → Stands text r.place → r.place.line ≡ k → Clear text k → PartsJudged text k r
-  parts_refused : r.number ≢ 0 → First text r.number r.place.line → PartsJudged text k r
+data PartsJudged (text : List ℕ) (k : ℕ) : Answer Progress → Type 0 where
+  parts_passed : {r : Progress} → Stands text r.place → r.place.line ≡ k → Clear text k → PartsJudged text k (Given r)
+  parts_refused : {number line : ℕ} → First text number line → PartsJudged text k (RefusedBy number line)
 
 -- one line more, unless an earlier one was refused
-judged_more : {text : List ℕ} {k : ℕ} (k' : ℕ) (r next : Progress) → PartsJudged text k r
-    → (r.number ≡ 0 → Stands text r.place → r.place.line ≡ k → Clear text r.place.line → PartsJudged text k' next)
-    → PartsJudged text k' (unless_refused r next)
+judged_more : {text : List ℕ} {k : ℕ} (k' : ℕ) (answer : Answer Progress) (next : Progress → Answer Progress) → PartsJudged text k answer
+    → ((r : Progress) → answer ≡ Given r → Stands text r.place → r.place.line ≡ k → Clear text r.place.line → PartsJudged text k' (next r))
+    → PartsJudged text k' (unless_refused answer next)
 unfolding unless_refused
-judged_more {text} k' r next (parts_passed z st l c) f = rw (eq-eqb r.number 0 z) (f z st l (subst (Clear text) (sym l) c))
-judged_more k' r next (parts_refused z g) f = rw (ne_eqb r.number 0 z) (parts_refused z g)
+judged_more {text} k' (Given r) next (parts_passed st l c) f = f r refl st l (subst (Clear text) (sym l) c)
+judged_more k' (RefusedBy number line) next (parts_refused g) f = parts_refused g
 
 module _ (text : List ℕ) (k : ℕ) (r : Progress) (st : Stands text r.place) (clear : Clear text r.place.line) (next : r.place.line + 1 ≡ k) where
   clear_behind : ((m : ℕ) → ¬ FitsAt text m r.place.line) → Clear text k
   clear_behind none = subst (Clear text) next (clear_more text r.place.line clear none)
 
-  with_property_line : (j : ℕ) {l : Line} → LineJudged text r.place.line (drop r.place.at text) (λ _. Unit) l → PartsJudged text k (propertied j r l)
-  unfolding propertied
-  with_property_line j (line_refused {number} f least some) = parts_refused (λ z. omega arith) (first_on text number r.place.line clear f least)
-  with_property_line j (line_passed s none) = parts_passed refl (stands_next st) next (clear_behind none)
+  with_property_line : (j : ℕ) {l : Line ℕ} → LineJudged text r.place.line (drop r.place.at text) (λ _. Unit) l → PartsJudged text k (propertied j r l)
+  unfolding propertied following unless_refused with_property
+  with_property_line j (line_refused {number} f least some) = parts_refused (first_on text number r.place.line clear f least)
+  with_property_line j (line_passed s none) = parts_passed (stands_next st) next (clear_behind none)
 
-  with_rule_line : (i : ℕ) {l : RuleLine} → RuleJudged text r.place.line (drop r.place.at text) l → PartsJudged text k (ruled i r l)
-  unfolding ruled
-  with_rule_line i (rule_refused {number} f least some) = parts_refused (λ z. omega arith) (first_on text number r.place.line clear f least)
-  with_rule_line i (rule_passed none) = parts_passed refl (stands_next st) next (clear_behind none)
+  with_rule_line : (i : ℕ) {l : Line RuleParts} → RuleJudged text r.place.line (drop r.place.at text) l → PartsJudged text k (ruled i r l)
+  unfolding ruled following unless_refused with_rule
+  with_rule_line i (rule_refused {number} f least some) = parts_refused (first_on text number r.place.line clear f least)
+  with_rule_line i (rule_passed none) = parts_passed (stands_next st) next (clear_behind none)
 
 -- ---- the property lines
 
 properties_judged : (text : List ℕ) (n : ℕ) → IsN text n → (p : LineStart) → Stands text p → p.line ≡ 4 → Clear text 4
-    → (j : ℕ) → 4 + j ≤ first_rule_line text → PartsJudged text (4 + j) (properties_read text n p j)
+    → (j : ℕ) → 4 + j ≤ first_rule_line text → PartsJudged text (4 + j) (properties_read text n (none_read p) j)
 unfolding properties_read next_property none_read
-properties_judged text n isN p st four clear zero b = parts_passed refl st four clear
+properties_judged text n isN p st four clear zero b = parts_passed st four clear
 properties_judged text n isN p st four clear (suc j) b =
-    let r = properties_read text n p j in
-    judged_more (4 + suc j) r _ (properties_judged text n isN p st four clear j (omega arith)) λ _ s l c.
+    judged_more (4 + suc j) (properties_read text n (none_read p) j) (next_property text n j) (properties_judged text n isN p st four clear j (omega arith)) λ r _ s l c.
     with_property_line text (4 + suc j) r s c (omega arith) j
     (state_judged text r.place.line (drop r.place.at text) s.begins n isN prop_key (prop_line (omega arith) (omega arith)))
 
 -- ---- the rule lines
-
--- behind a line that was refused no line is read
-stays_refused : (text : List ℕ) (n : ℕ) (r : Progress) → r.number ≢ 0 → (i : ℕ) → rules_read text n r i ≡ r
-unfolding rules_read next_rule
-stays_refused text n r z zero = refl
-stays_refused text n r z (suc i) = ap (next_rule text n i) (stays_refused text n r z i) ∙ rw (ne_eqb r.number 0 z)
 
 module _ (text : List ℕ) (n R : ℕ) (isN : IsN text n) (isR : IsR text R) (before : Progress) (room : PlaceArrays before) where
   few : n ≤ 7
@@ -204,7 +183,7 @@ module _ (text : List ℕ) (n R : ℕ) (isN : IsN text n) (isR : IsR text R) (be
   module _ (st : Stands text before.place) (first : before.place.line ≡ first_rule_line text) where
     -- each rule line that was read has the name that is found for it
     named_line : (i : ℕ) (r : Progress) → i ≤ R → Ruled text n before i r → (j : ℕ) → j < i
-        → (e : List ℕ) × HasName text (first_rule_line text + j) (name_of text r.names r.steps j) e
+        → (e : List ℕ) × HasName text (first_rule_line text + j) (name_of text (get_or r.parts j no_parts)) e
     unfolding flat_map
     named_line i r b u j h =
         let rs : List Rule = u.rules in
@@ -233,10 +212,10 @@ module _ (text : List ℕ) (n R : ℕ) (isN : IsN text n) (isR : IsR text R) (be
           },
         )
 
-    names_told : (i : ℕ) (r : Progress) → i ≤ R → Ruled text n before i r → TellsNames text (first_rule_line text + i) (is_taken text r.names r.steps i)
+    names_told : (i : ℕ) (r : Progress) → i ≤ R → Ruled text n before i r → TellsNames text (first_rule_line text + i) (is_taken text (take i r.parts))
     names_told i r b u = record {
       taken_there = λ name t.
-          let w = is_taken_lem text r.names r.steps name i t in
+          let w = taken_there text name r.parts i t in
           let m = named_line i r b u w.0 w.1 in
           let k : ℕ = first_rule_line text + w.0 in
           (k, omega (arith, w.1), (m.0, subst (λ x. HasName text k x m.0) w.2 m.1));
@@ -244,25 +223,20 @@ module _ (text : List ℕ) (n R : ℕ) (isN : IsN text n) (isR : IsR text R) (be
           let l : first_rule_line text ≤ j = a.rule.least in
           let k : j - first_rule_line text < i = omega arith in
           let e : j ≡ first_rule_line text + (j - first_rule_line text) = omega arith in
-          taken_back text r.names r.steps name i t (j - first_rule_line text) k
+          taken_back text name r.parts i (omega (arith, u.upto.room.parts, isR.range.at_most)) t (j - first_rule_line text) k
           (one_name (named_line i r b u (j - first_rule_line text) k).1 (subst (λ x. HasName text x name d) e a));
     }
 
-    some_judged : PartsJudged text (first_rule_line text) before → (i : ℕ) → i ≤ R → PartsJudged text (first_rule_line text + i) (rules_read text n before i)
+    rules_judged : Clear text (first_rule_line text) → (i : ℕ) → i ≤ R → PartsJudged text (first_rule_line text + i) (rules_read text n before i)
     unfolding rules_read next_rule
-    some_judged judged zero b = subst (λ k. PartsJudged text k before) (omega arith) judged
-    some_judged judged (suc i) b =
-        let r = rules_read text n before i in
-        let taken : List ℕ → Bool = is_taken text r.names r.steps i in
-        judged_more (first_rule_line text + suc i) r _ (some_judged judged i (omega arith)) λ z s l c.
-        let u = rules_back text n before room few i (omega (arith, isR.range.at_most)) z in
+    rules_judged clear zero b = parts_passed st (omega arith) (subst (Clear text) (omega arith) clear)
+    rules_judged clear (suc i) b =
+        judged_more (first_rule_line text + suc i) (rules_read text n before i) (next_rule text n i) (rules_judged clear i (omega arith)) λ r e s l c.
+        let u = rules_back text n before room few i (omega (arith, isR.range.at_most)) r e in
+        let taken : List ℕ → Bool = is_taken text (take i r.parts) in
         with_rule_line text (first_rule_line text + suc i) r s c (omega arith) i
         (rule_judged text r.place.line (drop r.place.at text) s.begins n isN (record { R = R; count = isR; least = omega arith; most = omega arith }) taken
         (subst (λ k. TellsNames text k taken) (sym l) (names_told i r (omega arith) u)) r.place.at)
-
-  rules_judged : PartsJudged text (first_rule_line text) before → PartsJudged text (first_rule_line text + R) (rules_read text n before R)
-  rules_judged (parts_passed z st l c) = some_judged st l (parts_passed z st l c) R (omega arith)
-  rules_judged (parts_refused z f) = subst (PartsJudged text (first_rule_line text + R)) (sym (stays_refused text n before z R)) (parts_refused z f)
 
 -- ---- both kinds of lines
 
@@ -272,44 +246,55 @@ unfolding first_rule_line
 first_rule text p st four = ap (λ s. 4 + property_count s) (sym st.begins ∙ ap (λ k. after_lines (k - 1) text) four)
 
 lines_judged : (text : List ℕ) (n R : ℕ) → IsN text n → IsR text R → (p : LineStart) → Stands text p → p.line ≡ 4 → Clear text 4
-    → PartsJudged text (first_rule_line text + R) (rules_read text n (properties_read text n p (property_count (drop p.at text))) R)
+    → PartsJudged text (first_rule_line text + R) (body_read text n R p (property_count (drop p.at text)))
+unfolding body_read
 lines_judged text n R isN isR p st four clear =
     let properties : ℕ = property_count (drop p.at text) in
-    let before : Progress = properties_read text n p properties in
     let first : 4 + properties ≡ first_rule_line text = first_rule text p st four in
-    rules_judged text n R isN isR before (properties_room text n p properties)
-    (subst (λ k. PartsJudged text k before) first (properties_judged text n isN p st four clear properties (omega arith)))
+    judged_more (first_rule_line text + R) (properties_read text n (none_read p) properties) (λ before. rules_read text n before R)
+    (properties_judged text n isN p st four clear properties (omega arith)) λ before e s l c.
+    rules_judged text n R isN isR before (given_of (properties_room text n p properties) e) s (l ∙ first) (subst (Clear text) (l ∙ first) c) R (omega arith)
 
 -- ---- the whole text
 
-finished_right : (text : List ℕ) (vars R init properties : ℕ) (r : Progress) → IsR text R → PartsJudged text (first_rule_line text + R) r
-    → RightOutcome text (finished text vars R init properties r).outcome
-unfolding refused_reading Clear
-finished_right text vars R init properties r isR (parts_refused z f) =
-    by_last text vars R init properties r (λ x. RightOutcome text x.outcome) (λ _. first_fits f) (λ e _. absurd (z e)) (λ e _. absurd (z e))
-finished_right text vars R init properties r isR (parts_passed z st l clear) =
-    let rest : after_lines (first_rule_line text + R - 1) text ≡ drop r.place.at text = ap (λ k. after_lines (k - 1) text) (sym l) ∙ st.begins in
-    by_last text vars R init properties r (λ x. RightOutcome text x.outcome)
-    (λ e. absurd (e z))
-    (λ _ b.
-    let some : after_lines (first_rule_line text + R - 1) text ≢ [] = λ q. omega (arith, length-drop r.place.at text, ap length (sym rest ∙ q)) in
-    first_fits
-    (first_on text 9 r.place.line (λ m k h. clear m k (omega arith)) (subst (FitsAt text 9) (sym l) (bytes_follow isR some))
-    (λ m h f. omega (arith, (fits_behind isR f (omega arith)).0))))
-    (λ _ b.
-    let empty : after_lines (first_rule_line text + R - 1) text ≡ [] = rest ∙ drop_of_length-le text b in
-    none_fits (λ m k f. go m k f empty (dec_lt k (first_rule_line text + R))))
+finished_right : (text : List ℕ) (vars R init properties : ℕ) {body : Answer Progress} → IsR text R → PartsJudged text (first_rule_line text + R) body
+    → RightOutcome text (outcome_of (finished text vars R init properties body))
+unfolding Clear
+finished_right text vars R init properties isR (parts_refused {number} {line} f) =
+    subst (λ x. RightOutcome text (outcome_of x)) (sym ((last_numbers text vars R init properties _).by_rule number line refl)) (first_fits f)
+finished_right text vars R init properties isR (parts_passed {r} st l clear) = ends (dec_lt r.place.at (length text))
   where
-    go : (m k : ℕ) → FitsAt text m k → after_lines (first_rule_line text + R - 1) text ≡ [] → Dec (k < first_rule_line text + R) → ⊥
-    go m k f empty (yes b) = clear m k (omega arith) f
-    go m k f empty (no b) = (fits_behind isR f (omega arith)).1 empty
+    rest : after_lines (first_rule_line text + R - 1) text ≡ drop r.place.at text
+    rest = ap (λ k. after_lines (k - 1) text) (sym l) ∙ st.begins
+
+    none : after_lines (first_rule_line text + R - 1) text ≡ [] → (m k : ℕ) → FitsAt text m k → Dec (k < first_rule_line text + R) → ⊥
+    none empty m k f (yes b) = clear m k (omega arith) f
+    none empty m k f (no b) = (fits_behind isR f (omega arith)).1 empty
+
+    ends : Dec (r.place.at < length text) → RightOutcome text (outcome_of (finished text vars R init properties (Given r)))
+    ends (yes b) =
+        let some : after_lines (first_rule_line text + R - 1) text ≢ [] = λ q. omega (arith, length-drop r.place.at text, ap length (sym rest ∙ q)) in
+        subst (λ x. RightOutcome text (outcome_of x)) (sym ((last_numbers text vars R init properties (Given r)).by_nine r refl b))
+        (first_fits
+        (first_on text 9 r.place.line (λ m k h. clear m k (omega arith)) (subst (FitsAt text 9) (sym l) (bytes_follow isR some))
+        (λ m h f. omega (arith, (fits_behind isR f (omega arith)).0))))
+    ends (no b) =
+        let empty : after_lines (first_rule_line text + R - 1) text ≡ [] = rest ∙ drop_of_length-le text (omega arith) in
+        subst (λ x. RightOutcome text (outcome_of x)) (sym ((last_numbers text vars R init properties (Given r)).by_none r refl (omega arith)))
+        (none_fits (λ m k f. none empty m k f (dec_lt k (first_rule_line text + R))))
 
 -- the reading of any text has the right outcome
-pub right_outcome : (text : List ℕ) → RightOutcome text (read_model text).outcome
-unfolding read_model behind_line after_lines
+pub right_outcome : (text : List ℕ) → RightOutcome text (outcome_of (read_model text))
+unfolding read_model on_line behind_init after_lines
 right_outcome text =
     let s₁ : Stands text text_start = record { least = omega arith; begins = refl } in
-    following_right text text_start _ _ s₁ (clear_start text) (count_judged text 1 text refl vars_key 7 vars_line) λ vars b₁ isN s₂ c₂.
-    following_right text (place₂ b₁) _ _ s₂ c₂ (count_judged text 2 (drop (place₂ b₁).at text) s₂.begins rules_key 16 rules_line) λ R b₂ isR s₃ c₃.
-    following_right text (place₃ b₁ b₂) _ _ s₃ c₃ (state_judged text 3 (drop (place₃ b₁ b₂).at text) s₃.begins vars isN init_key init_line) λ init b₃ _ s₄ c₄.
-    finished_right text vars R _ _ _ isR (lines_judged text vars R isN isR (place₄ b₁ b₂ b₃) s₄ refl c₄)
+    following_right text text_start _ _ s₁ (clear_start text) (count_judged text 1 text refl vars_key 7 vars_line) λ vars isN s₂ l₂ c₂.
+    let two : vars.place.line ≡ 2 = omega arith in
+    following_right text vars.place _ _ s₂ c₂
+    (count_judged text vars.place.line (drop vars.place.at text) s₂.begins rules_key 16 (subst (λ k. CountLine k rules_key 16) (sym two) rules_line)) λ rules isR s₃ l₃ c₃.
+    let three : rules.place.line ≡ 3 = omega arith in
+    following_right text rules.place _ _ s₃ c₃
+    (state_judged text rules.place.line (drop rules.place.at text) s₃.begins vars.value isN init_key (subst (λ k. StateLine text k init_key) (sym three) init_line)) λ init _ s₄ l₄ c₄.
+    let four : init.place.line ≡ 4 = omega arith in
+    finished_right text vars.value rules.value _ _ (subst (λ k. GivesCount text k rules_key 16 rules.value) two isR)
+    (lines_judged text vars.value rules.value isN (subst (λ k. GivesCount text k rules_key 16 rules.value) two isR) init.place s₄ four (subst (Clear text) four c₄))

@@ -1,6 +1,6 @@
 -- The reading is the right one: the written form of a legal model is accepted, with each part of the model at the place that the reading gives
 -- for it, and an accepted text is the written form of a legal model. From the laws of the lines, along the lines of the text.
-use Rattle.std.specs.Prelude.{ℕ, zero, suc, ◌+◌, ◌*◌, ◌≤◌, ◌<◌, ◌≡◌, refl, Bool, true, false, length, get_or, drop}
+use Rattle.std.specs.Prelude.{ℕ, suc, ◌+◌, ◌*◌, ◌≤◌, ◌<◌, ◌≡◌, refl, Bool, true, false, Some, None, length, get_or, drop}
 use Rattle.std.proofs.Common.{sym, ap, ◌∙◌, subst, arith, length-append, drop_of_length-le}
 use mathlib.Core.List.{List, [], ◌∷◌, ◌++◌, append-nil, append_assoc, flat_map}
 use Rattle.std.proofs.Math.Option.{Option, none, some}
@@ -8,29 +8,27 @@ use Rattle.sets.specs.Laws.Tabulated.{length_tabulate, get_d_tabulate, tabulated
 use Rattle.exprs.specs.Expr.{Expr, written, size}
 use Rattle.exprs.specs.Reading.{read_expr}
 use Rattle.exprs.specs.Laws.Reading.{reads_what_is_written}
-use Rattle.lines.specs.declared.line.Line.{Line}
-use Rattle.lines.specs.declared.line.Line.TheVariants.{Fault, Read}
+use Rattle.refusals.specs.Answers.{Accepted, Answer, Given, outcome_of}
 use Rattle.lines.specs.Decimal.{decimal}
-use Rattle.lines.specs.Lines.{vars_key, rules_key, init_key, prop_key, rule_key, starts_with, count_line, state_line}
-use Rattle.rule_lines.specs.RuleLines.{name_of}
+use Rattle.lines.specs.Lines.{Line, Fault, Read, vars_key, rules_key, init_key, prop_key, rule_key, starts_with, count_line, state_line}
+use Rattle.rule_lines.specs.RuleLines.{StartPlace, no_parts, name_of}
 use Rattle.lines.specs.Written.{Rule, Within, LegalExpr, LegalStart, LegalRule, line, written_start, written_parts, written_rule}
 use Rattle.lines.specs.Laws.Decimal.{decimal_short}
 use Rattle.lines.proofs.Laws.Expressions.{letters_more}
 use Rattle.lines.proofs.Laws.Lines.{Reads, vars_reads, rules_reads, init_reads, line_append, length_line}
 use Rattle.bodies.specs.declared.progress.LineStart.{LineStart}
+use Rattle.bodies.specs.declared.progress.LineRead.{LineRead}
 use Rattle.bodies.specs.declared.progress.Progress.{Progress}
 use Rattle.bodies.specs.Properties.{property_count}
-use Rattle.bodies.specs.Body.{behind_line, properties_read, next_rule, rules_read}
+use Rattle.bodies.specs.Body.{behind_line, following, unless_refused, none_read, properties_read, rules_read}
+use Rattle.bodies.specs.Laws.Answered.{given_of, given_before, given_next}
 use Rattle.bodies.specs.Laws.Ranges.{properties_le, properties_some}
 use Rattle.models.specs.declared.model.Model.{Model}
-use Rattle.models.specs.declared.model.Outcome.TheVariants.{Accepted}
-use Rattle.models.specs.declared.model.Reading.{Reading}
-use Rattle.models.specs.Reading.{text_start, refused_reading, following, on_line, finished, read_model}
-use Rattle.models.specs.Written.{Described, property_at, rule_at, Legal, written_property, written_model, or_false, expr_at, property_in, start_at, rule_in, described}
+use Rattle.models.specs.Reading.{text_start, on_line, body_read, finished, behind_init, read_model, places_of}
+use Rattle.models.specs.Written.{Described, property_at, rule_at, Legal, written_property, written_model, or_false, expr_at, property_in, start_at, rule_of, rule_in, described}
 use Rattle.models.proofs.Laws.Finished.{last_numbers, by_last}
-use Rattle.models.proofs.Laws.Ranges.{place₂, place₃, place₄}
 use Rattle.models.specs.Laws.Lists.{behind}
-use Rattle.models.specs.Laws.Rules.{StartStands, no_start, some_start, LegalRules, Upto, unnumbered, rules_back, rules_there}
+use Rattle.models.specs.Laws.Rules.{StartStands, no_start, some_start, LegalRules, Upto, rules_back, rules_there}
 use Rattle.models.specs.Laws.Properties.{LegalEach, count_there, rule_no_property, properties_room, Stated, properties_back, properties_there}
 
 -- ---- the model of a text whose parts stand at given places
@@ -51,18 +49,18 @@ pub described_property : (text : List ℕ) (m : Model) (j : ℕ) → j < m.prope
 unfolding described
 described_property text m j h = get_d_tabulate m.properties (property_in text m) _ j h
 
--- the reading r of the text finds the parts of the model M: N, R, how many properties there are, and at their places the expressions, the names and the
+-- the answer of the reading finds the parts of the model M: N, R, how many properties there are, and at their places the expressions, the names and the
 -- parts of the rules
-pub record Finds (text : List ℕ) (M : Described) (r : Reading) : Type 0 where
-  pub accepted : r.outcome ≡ Accepted
-  pub vars : r.model.vars ≡ M.vars
-  pub rules : r.model.rules ≡ length M.rules
-  pub init : read_expr (drop r.model.init text) ≡ some M.init
-  pub properties : r.model.properties ≡ length M.props
-  pub props : (j : ℕ) → j < length M.props → read_expr (drop (get_or r.model.props j 0) text) ≡ some (property_at M.props j)
-  pub steps : (i : ℕ) → i < length M.rules → read_expr (drop (get_or r.model.steps i 0) text) ≡ some (rule_at M.rules i).step
-  pub starts : (i : ℕ) → i < length M.rules → start_at text (get_or r.model.steps i 0) (get_or r.model.starts i 0) ≡ (rule_at M.rules i).start
-  pub names : (i : ℕ) → i < length M.rules → name_of text r.model.names r.model.steps i ≡ (rule_at M.rules i).name
+pub record Finds (text : List ℕ) (M : Described) (answer : Answer Model) : Type 0 where
+  pub accepted : outcome_of answer ≡ Accepted
+  pub vars : (places_of answer).vars ≡ M.vars
+  pub rules : (places_of answer).rules ≡ length M.rules
+  pub init : read_expr (drop (places_of answer).init text) ≡ some M.init
+  pub properties : (places_of answer).properties ≡ length M.props
+  pub props : (j : ℕ) → j < length M.props → read_expr (drop (get_or (places_of answer).props j 0) text) ≡ some (property_at M.props j)
+  pub steps : (i : ℕ) → i < length M.rules → read_expr (drop (get_or (places_of answer).parts i no_parts).step text) ≡ some (rule_at M.rules i).step
+  pub starts : (i : ℕ) → i < length M.rules → let p = get_or (places_of answer).parts i no_parts in start_at text p.step p.start ≡ (rule_at M.rules i).start
+  pub names : (i : ℕ) → i < length M.rules → name_of text (get_or (places_of answer).parts i no_parts) ≡ (rule_at M.rules i).name
 
 read_at : (text : List ℕ) (at : ℕ) (e : Expr) → read_expr (drop at text) ≡ some e → e ≡ expr_at text at
 unfolding expr_at or_false
@@ -75,43 +73,57 @@ same_parts : {M N : Described} → M.vars ≡ N.vars → M.init ≡ N.init → M
 same_parts a b c d i = record { vars = a i; init = b i; props = c i; rules = d i }
 
 -- the model that is found is the one that the places tell
-pub found_is_described : (text : List ℕ) (M : Described) (r : Reading) → Finds text M r → M ≡ described text r.model
-unfolding described property_in rule_in
-found_is_described text M r f =
-    let m : Model = r.model in
+pub found_is_described : (text : List ℕ) (M : Described) (answer : Answer Model) → Finds text M answer → M ≡ described text (places_of answer)
+unfolding described property_in rule_in rule_of
+found_is_described text M answer f =
+    let m : Model = places_of answer in
     same_parts (sym f.vars) (read_at text m.init M.init f.init)
     (tabulated m.properties (property_in text m) _ M.props (sym f.properties) (λ j h.
     read_at text (get_or m.props j 0) (property_at M.props j) (f.props j (rw f.properties at h))))
     (tabulated m.rules (rule_in text m) _ M.rules (sym f.rules) (λ i h.
     let k : i < length M.rules = rw f.rules at h in
-    same_rule (sym (f.names i k)) (read_at text (get_or m.steps i 0) (rule_at M.rules i).step (f.steps i k)) (sym (f.starts i k))))
+    same_rule (sym (f.names i k)) (read_at text (get_or m.parts i no_parts).step (rule_at M.rules i).step (f.steps i k)) (sym (f.starts i k))))
 
 -- ---- the lines before the rules
 
-on_line_is : (text : List ℕ) (p : LineStart) (read : List ℕ → Line) (next : ℕ → LineStart → Reading) {v bytes : ℕ} → read (drop p.at text) ≡ Read v bytes
-    → on_line text p read next ≡ next v (behind_line p bytes)
-unfolding on_line following
+-- the places of the lines behind lines of so many bytes
+abbrev place₂ : ℕ → LineStart
+place₂ a = behind_line text_start a
+
+abbrev place₃ : ℕ → ℕ → LineStart
+place₃ a b = behind_line (place₂ a) b
+
+abbrev place₄ : ℕ → ℕ → ℕ → LineStart
+place₄ a b c = behind_line (place₃ a b) c
+
+-- what is read of a line, and the place behind it
+abbrev read_as : LineStart → ℕ → ℕ → LineRead ℕ
+read_as p v bytes = record { value = v; place = behind_line p bytes }
+
+on_line_is : (text : List ℕ) (p : LineStart) (read : List ℕ → Line ℕ) (next : LineRead ℕ → Answer Model) {v bytes : ℕ} → read (drop p.at text) ≡ Read v bytes
+    → unless_refused (on_line text p read) next ≡ next (read_as p v bytes)
+unfolding on_line following unless_refused
 on_line_is text p read next q = rw q
 
-on_line_back : (text : List ℕ) (p : LineStart) (read : List ℕ → Line) (next : ℕ → LineStart → Reading) → (on_line text p read next).outcome ≡ Accepted
-    → (v : ℕ) × (bytes : ℕ) × (read (drop p.at text) ≡ Read v bytes)
-unfolding on_line following
+on_line_back : (text : List ℕ) (p : LineStart) (read : List ℕ → Line ℕ) (next : LineRead ℕ → Answer Model)
+    → outcome_of (unless_refused (on_line text p read) next) ≡ Accepted → (v : ℕ) × (bytes : ℕ) × (read (drop p.at text) ≡ Read v bytes)
+unfolding on_line following unless_refused
 on_line_back text p read next q = go (read (drop p.at text)) q
   where
-    go : (l : Line) → (following p l next).outcome ≡ Accepted → (v : ℕ) × (bytes : ℕ) × (l ≡ Read v bytes)
-    go (Fault number) q = let z : ◌≡◌ {A = ℕ} 0 1 = cc in absurd (omega arith)
+    go : (l : Line ℕ) → outcome_of (unless_refused (following p l) next) ≡ Accepted → (v : ℕ) × (bytes : ℕ) × (l ≡ Read v bytes)
+    go (Fault number) q = cc
     go (Read v bytes) q = (v, bytes, refl)
 
 -- A line of an accepted text, at a place: what it says, the text behind it, and that what follows is accepted too.
-record Behind {X : Type 0} (Lawful : X → Type 0) (form : X → List ℕ) (says : X → ℕ) (text : List ℕ) (p : LineStart) (next : ℕ → LineStart → Reading) : Type 0 where
+record Behind {X : Type 0} (Lawful : X → Type 0) (form : X → List ℕ) (says : X → ℕ) (text : List ℕ) (p : LineStart) (next : LineRead ℕ → Answer Model) : Type 0 where
   what : X
   lawful : Lawful what
   rest : List ℕ
   text_is : drop p.at text ≡ form what ++ rest
-  accepted : (next (says what) (behind_line p (length (form what)))).outcome ≡ Accepted
+  accepted : outcome_of (next (read_as p (says what) (length (form what)))) ≡ Accepted
 
-line_back : {X : Type 0} (Lawful : X → Type 0) (form : X → List ℕ) (says : X → ℕ) (read : List ℕ → Line) → Reads Read Lawful form says read
-    → (text : List ℕ) (p : LineStart) (next : ℕ → LineStart → Reading) → (on_line text p read next).outcome ≡ Accepted → Behind Lawful form says text p next
+line_back : {X : Type 0} (Lawful : X → Type 0) (form : X → List ℕ) (says : X → ℕ) (read : List ℕ → Line ℕ) → Reads Read Lawful form says read
+    → (text : List ℕ) (p : LineStart) (next : LineRead ℕ → Answer Model) → outcome_of (unless_refused (on_line text p read) next) ≡ Accepted → Behind Lawful form says text p next
 line_back Lawful form says read reads text p next q =
     let s : List ℕ = drop p.at text in
     let l = on_line_back text p read next q in
@@ -122,25 +134,24 @@ line_back Lawful form says read reads text p next q =
       lawful = b.1;
       rest = b.2.0;
       text_is = b.2.1;
-      accepted = ap (λ x. x.outcome) (sym (on_line_is text p read next e)) ∙ q;
+      accepted = ap outcome_of (sym (on_line_is text p read next e)) ∙ q;
     }
 
 pub read_is : (text : List ℕ) {n count init a b c : ℕ} → count_line vars_key 7 text ≡ Read n a
     → count_line rules_key 16 (drop (place₂ a).at text) ≡ Read count b
     → state_line init_key n (drop (place₃ a b).at text) ≡ Read init c
     → let properties = property_count (drop (place₄ a b c).at text) in
-    read_model text ≡ finished text n count ((place₃ a b).at + init) properties (rules_read text n (properties_read text n (place₄ a b c) properties) count)
-unfolding read_model
+    read_model text ≡ finished text n count ((place₃ a b).at + init) properties (body_read text n count (place₄ a b c) properties)
+unfolding read_model on_line following unless_refused behind_init
 read_is text p q r = rw (p, q, r)
 
-finished_back : (text : List ℕ) (n count init properties : ℕ) (r : Progress) → (finished text n count init properties r).outcome ≡ Accepted
-    → (r.number ≡ 0) × (length text ≤ r.place.at)
-unfolding refused_reading
-finished_back text n count init properties r =
-    by_last text n count init properties r (λ x. x.outcome ≡ Accepted → (r.number ≡ 0) × (length text ≤ r.place.at))
-    (λ _ q. let z : ◌≡◌ {A = ℕ} 0 1 = cc in absurd (omega arith))
-    (λ _ _ q. let z : ◌≡◌ {A = ℕ} 0 1 = cc in absurd (omega arith))
-    (λ e h _. (e, h))
+finished_back : (text : List ℕ) (n count init properties : ℕ) (body : Answer Progress) → outcome_of (finished text n count init properties body) ≡ Accepted
+    → (r : Progress) × (body ≡ Given r) × (length text ≤ r.place.at)
+finished_back text n count init properties body =
+    by_last text n count init properties body (λ x. outcome_of x ≡ Accepted → (r : Progress) × (body ≡ Given r) × (length text ≤ r.place.at))
+    (λ _ _ _ q. cc)
+    (λ _ _ _ q. cc)
+    (λ r e h _. (r, e, h))
 
 -- ---- the whole text
 
@@ -182,14 +193,25 @@ module _ (n : ℕ) (h : n ≤ 7) (capitals : Bool) (e : Expr) (l : LegalExpr n c
   line_read text at key rest q = legal_read (drop (at + length key) text) (10 ∷ rest) (behind text at key (written e ++ 10 ∷ rest) (q ∙ line_append key (written e) rest))
 
 -- the start part of a legal rule is the one that stands behind its step part
-start_read : (n : ℕ) → n ≤ 7 → (start : Option Expr) → LegalStart n start → (text : List ℕ) (step bytes : ℕ) → StartStands (drop step text) start bytes
-    → start_at text step bytes ≡ start
+start_read : (n : ℕ) → n ≤ 7 → (start : Option Expr) → LegalStart n start → (text : List ℕ) (step : ℕ) (place : StartPlace) → StartStands (drop step text) start place
+    → start_at text step place ≡ start
 unfolding start_at
-start_read n h none l text step zero no_start = refl
-start_read n h none l text step (suc bytes) s = elim s [ ]
-start_read n h (some e) l text step zero (some_start rest b q) = absurd (omega arith)
-start_read n h (some e) l text step (suc bytes) (some_start rest b q) =
-    ap some (sym (read_at (drop step text) (suc bytes) e (legal_read n h false e l (drop (suc bytes) (drop step text)) rest q)))
+start_read n h none l text step None no_start = refl
+start_read n h none l text step (Some bytes) s = elim s [ ]
+start_read n h (some e) l text step None s = elim s [ ]
+start_read n h (some e) l text step (Some bytes) (some_start rest q) =
+    ap some (sym (read_at (drop step text) bytes e (legal_read n h false e l (drop bytes (drop step text)) rest q)))
+
+-- property lines that are read, and rule lines behind them
+body_is : (text : List ℕ) (n count : ℕ) (p : LineStart) (properties : ℕ) {before r : Progress} → properties_read text n (none_read p) properties ≡ Given before
+    → rules_read text n before count ≡ Given r → body_read text n count p properties ≡ Given r
+unfolding body_read
+body_is text n count p properties a b = given_next (λ before. rules_read text n before count) a ∙ b
+
+body_back : (text : List ℕ) (n count : ℕ) (p : LineStart) (properties : ℕ) {r : Progress} → body_read text n count p properties ≡ Given r
+    → (before : Progress) × (properties_read text n (none_read p) properties ≡ Given before) × (rules_read text n before count ≡ Given r)
+unfolding body_read
+body_back text n count p properties = given_before (properties_read text n (none_read p) properties) (λ before. rules_read text n before count)
 
 -- the written form of a legal model is accepted, and each part is found where the reading says
 pub written_is_found : (M : Described) → Legal M → Finds (written_model M) M (read_model (written_model M))
@@ -213,12 +235,15 @@ written_is_found M legal =
     let few : length M.props ≤ 4 = legal.properties.at_most in
     let counted : property_count (drop p₄.at text) ≡ length M.props =
     ap property_count t₄ ∙ count_there n h M.props legal.properties.at_least few legal.props last (rules_no_property rules legal.count.at_least) in
-    let q : Progress = properties_read text n p₄ (length M.props) in
-    let v : Stated text p₄ M.props q = properties_there text n p₄ M.props last h few legal.props t₄ in
+    let stated = properties_there text n p₄ M.props last h few legal.props t₄ in
+    let q : Progress = stated.0 in
+    let v : Stated text p₄ M.props q = stated.2 in
     let t₅ : drop q.place.at text ≡ last = ap (λ x. drop x text) v.place ∙ behind text p₄.at l₄ last t₄ in
-    let r : Progress = rules_read text n q (length rules) in
     let each : LegalRules n rules = record { each = legal.rules; apart = λ j k i m. legal.names i j m k } in
-    let u : Upto text q rules r = rules_there text n q rules (properties_room text n p₄ (length M.props)) v.number h legal.count.at_most each t₅ in
+    let behind_them = rules_there text n q rules (given_of (properties_room text n p₄ (length M.props)) stated.1) h legal.count.at_most each t₅ in
+    let r : Progress = behind_them.0 in
+    let u : Upto text q rules r = behind_them.2 in
+    let body : body_read text n (length rules) p₄ (length M.props) ≡ Given r = body_is text n (length rules) p₄ (length M.props) stated.1 behind_them.1 in
     let size : length text ≤ r.place.at =
     omega (arith, ap length t₁, length_five l₁ l₂ l₃ l₄ last, u.place, v.place, behind_three (length l₁) (length l₂) (length l₃)) in
     subst (Finds text M)
@@ -227,8 +252,8 @@ written_is_found M legal =
     (ap (count_line vars_key 7) t₁ ∙ vars_reads.there n legal.vars (l₂ ++ (l₃ ++ (l₄ ++ last))))
     (ap (count_line rules_key 16) t₂ ∙ rules_reads.there (length rules) legal.count (l₃ ++ (l₄ ++ last)))
     (ap (state_line init_key n) t₃ ∙ (init_reads n h).there M.init legal.init (l₄ ++ last))
-    ∙ ap (λ properties. finished text n (length rules) (p₃.at + length init_key) properties (rules_read text n (properties_read text n p₄ properties) (length rules))) counted
-    ∙ (last_numbers text n (length rules) (p₃.at + length init_key) (length M.props) r).by_none u.number size))
+    ∙ ap (λ properties. finished text n (length rules) (p₃.at + length init_key) properties (body_read text n (length rules) p₄ properties)) counted
+    ∙ (last_numbers text n (length rules) (p₃.at + length init_key) (length M.props) _).by_none r body size))
     (record {
       accepted = refl;
       vars = refl;
@@ -239,20 +264,16 @@ written_is_found M legal =
           legal_read n h false (property_at M.props j) (legal.props j k) (drop (get_or r.props j 0) text) (v.located j k).rest
           (ap (λ (x : List ℕ). drop (get_or x j 0) text) u.props ∙ (v.located j k).is);
       steps = λ i k.
-          legal_read n h true (rule_at rules i).step (legal.rules i k).step (drop (get_or r.steps i 0) text) (u.located i k).rest (u.located i k).step_is;
-      starts = λ i k. start_read n h (rule_at rules i).start (legal.rules i k).start text (get_or r.steps i 0) (get_or r.starts i 0) (u.located i k).start_is;
+          legal_read n h true (rule_at rules i).step (legal.rules i k).step (drop (get_or r.parts i no_parts).step text) (u.located i k).rest (u.located i k).step_is;
+      starts = λ i k.
+          let p = get_or r.parts i no_parts in
+          start_read n h (rule_at rules i).start (legal.rules i k).start text p.step p.start (u.located i k).start_is;
       names = λ i k. (u.located i k).name_is;
     })
 
--- rule lines that no number refuses follow property lines that none refuses
-still_read : (text : List ℕ) (n : ℕ) (before : Progress) (i : ℕ) → (rules_read text n before i).number ≡ 0 → before.number ≡ 0
-unfolding rules_read next_rule
-still_read text n before zero q = q
-still_read text n before (suc i) q = still_read text n before i (unnumbered (rules_read text n before i) _ q).0
-
 -- an accepted text is the written form of a legal model
-pub accepted_is_written : (text : List ℕ) → (read_model text).outcome ≡ Accepted → (M : Described) × Legal M × (text ≡ written_model M)
-unfolding read_model
+pub accepted_is_written : (text : List ℕ) → outcome_of (read_model text) ≡ Accepted → (M : Described) × Legal M × (text ≡ written_model M)
+unfolding read_model behind_init
 accepted_is_written text q =
     let a = line_back (Within 1 7) (λ n. line vars_key (decimal n)) (λ n. n) (count_line vars_key 7) vars_reads text text_start _ q in
     let n : ℕ = a.what in
@@ -267,18 +288,19 @@ accepted_is_written text q =
     let l₃ : List ℕ = line init_key (written c.what) in
     let p₄ : LineStart = behind_line p₃ (length l₃) in
     let s : List ℕ = drop p₄.at text in
-    let before : Progress = properties_read text n p₄ (property_count s) in
-    let r : Progress = rules_read text n before count in
-    let f = finished_back text n count (p₃.at + length init_key) (property_count s) r c.accepted in
-    let d = properties_back text n p₄ h (property_count s) (properties_le s) (still_read text n before count f.0) in
-    let g = rules_back text n before (properties_room text n p₄ (property_count s)) h count b.lawful.at_most f.0 in
+    let f = finished_back text n count (p₃.at + length init_key) (property_count s) (body_read text n count p₄ (property_count s)) c.accepted in
+    let r : Progress = f.0 in
+    let w = body_back text n count p₄ (property_count s) f.1 in
+    let before : Progress = w.0 in
+    let d = properties_back text n p₄ h (property_count s) (properties_le s) before w.1 in
+    let g = rules_back text n before (given_of (properties_room text n p₄ (property_count s)) w.1) h count b.lawful.at_most r w.2 in
     let l₄ : List ℕ = flat_map written_property d.props in
     let last : List ℕ = flat_map written_rule g.rules in
     let M : Described = record { vars = n; init = c.what; props = d.props; rules = g.rules } in
     let t₁ : a.rest ≡ l₂ ++ b.rest = sym (behind_place text text_start l₁ a.rest a.text_is) ∙ b.text_is in
     let t₂ : b.rest ≡ l₃ ++ c.rest = sym (behind_place text p₂ l₂ b.rest b.text_is) ∙ c.text_is in
     let t₃ : c.rest ≡ l₄ ++ drop before.place.at text = sym (behind_place text p₃ l₃ c.rest c.text_is) ∙ d.stated.lines in
-    let t₄ : drop before.place.at text ≡ last = g.upto.lines ∙ ap (λ x. last ++ x) (drop_of_length-le text f.1) ∙ append-nil last in (
+    let t₄ : drop before.place.at text ≡ last = g.upto.lines ∙ ap (λ x. last ++ x) (drop_of_length-le text f.2) ∙ append-nil last in (
       M,
       record {
         vars = a.lawful;
@@ -296,7 +318,7 @@ accepted_is_written text q =
     )
 
 -- the model of an accepted text
-pub accepted_is_found : (text : List ℕ) → (read_model text).outcome ≡ Accepted
+pub accepted_is_found : (text : List ℕ) → outcome_of (read_model text) ≡ Accepted
     → (M : Described) × Legal M × (text ≡ written_model M) × Finds text M (read_model text)
 accepted_is_found text q =
     let w = accepted_is_written text q in

@@ -8,14 +8,10 @@ use Rattle.std.proofs.lemmas.Bool.{false≢true}
 use Rattle.std.proofs.Math.Seq.{take-append_seam, drop-append_seam}
 use Rattle.sets.specs.Laws.Choice.{by_test}
 use Rattle.lines.specs.declared.classes.Class.TheVariants.{InLine, InName}
-use Rattle.lines.specs.declared.line.Line.{Line}
-use Rattle.lines.specs.declared.line.Line.TheVariants.{Fault, Read}
-use Rattle.rule_lines.specs.declared.names.RuleLine.{RuleLine}
-use Rattle.rule_lines.specs.declared.names.RuleLine.TheVariants.{RuleFault, RuleRead}
 use Rattle.rule_lines.specs.declared.names.RuleParts.{RuleParts}
 use Rattle.lines.specs.Bytes.{belongs, prefix}
 use Rattle.lines.specs.Decimal.{decimal}
-use Rattle.lines.specs.Lines.{rule_key, line_length, is_line, value_of, says, unless_fault, count_in, counted, count_line, all, state_line}
+use Rattle.lines.specs.Lines.{Line, Fault, Read, rule_key, line_length, is_line, value_of, says, unless_fault, count_in, counted, count_line, all, state_line}
 use Rattle.rule_lines.specs.RuleLines.{is_named, parts_at, rule_line}
 use Rattle.lines.specs.Written.{Within, line}
 use Rattle.lines.specs.Laws.Bytes.{all_append, prefix_seam, all_prefix}
@@ -181,14 +177,14 @@ state_key (prop_line a b) = refl
 -- ---- what is proved of a line
 
 -- Line k, of the text s, is read as l: the first number that fits, or what it says and that no number fits.
-pub data LineJudged (text : List ℕ) (k : ℕ) (s : List ℕ) (Says : ℕ → Type 0) : Line → Type 0 where
+pub data LineJudged (text : List ℕ) (k : ℕ) (s : List ℕ) (Says : ℕ → Type 0) : Line ℕ → Type 0 where
   line_refused : {number : ℕ} → FitsAt text number k → ((m : ℕ) → m < number → ¬ FitsAt text m k) → 1 ≤ number → LineJudged text k s Says (Fault number)
   line_passed : {v : ℕ} → Says v → ((m : ℕ) → ¬ FitsAt text m k) → LineJudged text k s Says (Read v (line_length s + 1))
 
 -- The same of a rule line.
-pub data RuleJudged (text : List ℕ) (k : ℕ) (s : List ℕ) : RuleLine → Type 0 where
-  rule_refused : {number : ℕ} → FitsAt text number k → ((m : ℕ) → m < number → ¬ FitsAt text m k) → 1 ≤ number → RuleJudged text k s (RuleFault number)
-  rule_passed : {parts : RuleParts} → ((m : ℕ) → ¬ FitsAt text m k) → RuleJudged text k s (RuleRead parts (line_length s + 1))
+pub data RuleJudged (text : List ℕ) (k : ℕ) (s : List ℕ) : Line RuleParts → Type 0 where
+  rule_refused : {number : ℕ} → FitsAt text number k → ((m : ℕ) → m < number → ¬ FitsAt text m k) → 1 ≤ number → RuleJudged text k s (Fault number)
+  rule_passed : {parts : RuleParts} → ((m : ℕ) → ¬ FitsAt text m k) → RuleJudged text k s (Read parts (line_length s + 1))
 
 -- The test tells the names of the rule lines before line k.
 pub record TellsNames (text : List ℕ) (k : ℕ) (taken : List ℕ → Bool) : Type 0 where
@@ -336,7 +332,7 @@ module _ (text : List ℕ) (k : ℕ) (s : List ℕ) (begins : after_lines (k - 1
           (λ l h t. go l h t (parts_tried text n isN (λ m q. one_count q isN) (parts_found s)))
         where
           go : is_line rule_key s ≡ true → is_named (value_of rule_key s) ≡ true → taken (name_found s) ≡ false → {number : ℕ} → Tried (UnfitParts text (parts_found s)) number
-              → RuleJudged text k s (unless_fault RuleFault number (RuleRead (parts_at at (prefix InName (value_of rule_key s)) (parts_found s)) (line_length s + 1)))
+              → RuleJudged text k s (unless_fault Fault number (Read (parts_at at (prefix InName (value_of rule_key s)) (parts_found s)) (line_length s + 1)))
           go l h t (tried_none f) = rule_passed (λ m. past_rule (suc m) (λ _. l) (λ _. h) (λ _. t) (λ j _. f j) m (omega arith))
           go l h t (tried_some {number} u f) =
               rule_refused (parts_fit (name_found_lem c l h) u) (past_rule (suc number) (λ _. l) (λ _. h) (λ _. t) f) (omega arith)

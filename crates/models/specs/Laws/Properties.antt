@@ -1,34 +1,35 @@
 -- The property lines of a model text, one after the other: reading them finds exactly written forms of legal expressions, each at its place, and
 -- there are as many as are counted. From the law of one such line, by induction on the number of lines.
 use Prim.Native.Nat.{ℕ, zero, suc, ◌+◌, ◌≤◌, ◌<◌}
-use Rattle.std.specs.Prelude.{◌≡◌, refl, ◌≢◌, true, eqb, ltb, length, get_or, take, drop, set}
+use Rattle.std.specs.Prelude.{◌≡◌, refl, ◌≢◌, true, ltb, length, get_or, take, drop, set}
 use Rattle.std.proofs.Math.Path.{sym, ap}
-use Rattle.std.proofs.Common.{◌∙◌, subst, subst₂, arith, eq-eqb, length-append, length-set, take-suc, get_or-set_same, get_or-set_other, length-take-le}
+use Rattle.std.proofs.Common.{◌∙◌, subst, arith, length-append, length-set, take-suc, get_or-set_same, get_or-set_other, length-take-le}
 use Rattle.std.proofs.Math.Bool.{false, and-eq-true_iff}
 use mathlib.Core.List.{List, [], ◌∷◌, ◌++◌, append_assoc, flat_map}
 use Rattle.std.proofs.lemmas.List.{length-replicate}
 use Rattle.std.proofs.Math.Seq.{take-length}
-use Rattle.sets.specs.Laws.Choice.{by_test}
 use Rattle.exprs.specs.Expr.{Expr, written}
 use Rattle.slices.specs.Same.{same}
 use Rattle.lines.specs.declared.classes.Class.TheVariants.{InLine}
-use Rattle.lines.specs.declared.line.Line.{Line}
-use Rattle.lines.specs.declared.line.Line.TheVariants.{Read}
+use Rattle.rule_lines.specs.declared.names.RuleParts.{RuleParts}
 use Rattle.lines.specs.Bytes.{belongs, prefix}
-use Rattle.lines.specs.Lines.{prop_key, rule_key, starts_with, is_line, line_length, all, state_line}
+use Rattle.lines.specs.Lines.{Line, Fault, Read, prop_key, rule_key, starts_with, is_line, line_length, all, state_line}
+use Rattle.rule_lines.specs.RuleLines.{no_parts}
 use Rattle.lines.specs.Written.{Rule, LegalExpr, written_rule}
 use Rattle.lines.specs.Laws.Bytes.{all_append}
 use Rattle.lines.proofs.Laws.Expressions.{legal_in_line}
 use Rattle.lines.proofs.Laws.Heard.{Heard, fault, said, state_heard}
 use Rattle.lines.proofs.Laws.Lines.{prop_reads, line_append, line_there}
+use Rattle.refusals.specs.Answers.{Given}
 use Rattle.bodies.specs.declared.progress.LineStart.{LineStart}
 use Rattle.bodies.specs.declared.progress.Progress.{Progress}
 use Rattle.bodies.specs.Properties.{after_line, leading, property_count}
-use Rattle.bodies.specs.Body.{none_read, propertied, next_property, properties_read}
+use Rattle.bodies.specs.Body.{behind_line, following, unless_refused, none_read, with_property, propertied, next_property, properties_read}
+use Rattle.bodies.specs.Laws.Answered.{refused, given, IfGiven, given_of, one_given, answered_next, given_before, given_next}
 use Rattle.bodies.specs.Laws.Lines.{line_seam}
 use Rattle.models.specs.Written.{property_at, written_property}
 use Rattle.models.specs.Laws.Lists.{at_more, flat_map_more, flat_map_at, behind, one_behind}
-use Rattle.models.specs.Laws.Rules.{PlaceArrays, unnumbered}
+use Rattle.models.specs.Laws.Rules.{PlaceArrays}
 
 -- ---- how many there are
 
@@ -83,20 +84,17 @@ count_there n h (e ∷ es) a b l rest f =
 
 -- ---- the arrays
 
-room_line : (j : ℕ) (r : Progress) {s : List ℕ} {most : ℕ} {l : Line} → Heard s most l → PlaceArrays r → PlaceArrays (propertied j r l)
-unfolding propertied
-room_line j r (fault number w) h = record { props = h.props; names = h.names; steps = h.steps; starts = h.starts }
-room_line j r (said w) h = record { props = length-set r.props j _ ∙ h.props; names = h.names; steps = h.steps; starts = h.starts }
+room_line : (j : ℕ) (r : Progress) {s : List ℕ} {most : ℕ} {l : Line ℕ} → Heard s most l → PlaceArrays r → IfGiven PlaceArrays (propertied j r l)
+unfolding propertied following unless_refused with_property
+room_line j r (fault number w) h = refused tt
+room_line j r (said w) h = given (record { props = length-set r.props j _ ∙ h.props; parts = h.parts })
 
-pub properties_room : (text : List ℕ) (n : ℕ) (p : LineStart) (j : ℕ) → PlaceArrays (properties_read text n p j)
+pub properties_room : (text : List ℕ) (n : ℕ) (p : LineStart) (j : ℕ) → IfGiven PlaceArrays (properties_read text n (none_read p) j)
 unfolding properties_read next_property none_read
-properties_room text n p zero =
-    record { props = length-replicate {A = ℕ} 4 0; names = length-replicate {A = ℕ} 16 0; steps = length-replicate {A = ℕ} 16 0; starts = length-replicate {A = ℕ} 16 0 }
+properties_room text n p zero = given (record { props = length-replicate {A = ℕ} 4 0; parts = length-replicate {A = RuleParts} 16 no_parts })
 properties_room text n p (suc j) =
-    let r = properties_read text n p j in
-    by_test {A = Progress} PlaceArrays (eqb r.number 0)
-    (λ _. room_line j r (state_heard prop_key n (drop r.place.at text)) (properties_room text n p j))
-    (λ _. properties_room text n p j)
+    answered_next (properties_read text n (none_read p) j) (next_property text n j) (properties_room text n p j) (λ _ _ _. tt) λ r _ h.
+    room_line j r (state_heard prop_key n (drop r.place.at text)) h
 
 -- ---- what is found
 
@@ -114,25 +112,27 @@ module _ (text props : List ℕ) (i at : ℕ) where
 
 -- Reading the properties es, whose lines begin at the place p, gives r.
 pub record Stated (text : List ℕ) (p : LineStart) (es : List Expr) (r : Progress) : Type 0 where
-  pub number : r.number ≡ 0
   pub place : r.place.at ≡ p.at + length (flat_map written_property es)
   pub lines : drop p.at text ≡ flat_map written_property es ++ drop r.place.at text
   pub located : (j : ℕ) → j < length es → StandsAt text r.props j (property_at es j)
 
 stated_none : (text : List ℕ) (p : LineStart) → Stated text p [] (none_read p)
 unfolding none_read flat_map
-stated_none text p = record { number = refl; place = omega arith; lines = refl; located = λ j h. absurd (omega arith) }
+stated_none text p = record { place = omega arith; lines = refl; located = λ j h. absurd (omega arith) }
+
+-- the state behind the line of this property, where so many are read before it
+abbrev behind_property : ℕ → Progress → Expr → Progress
+behind_property j r e = with_property r j (r.place.at + length prop_key) (behind_line r.place (length (written_property e)))
 
 stated_more : (text : List ℕ) (p : LineStart) (es : List Expr) (r : Progress) (e : Expr) (rest : List ℕ) → Stated text p es r → PlaceArrays r → length es < 4
     → drop r.place.at text ≡ written_property e ++ rest
-    → Stated text p (es ++ e ∷ []) (propertied (length es) r (Read (length prop_key) (length (written_property e))))
-unfolding propertied written_property
+    → Stated text p (es ++ e ∷ []) (behind_property (length es) r e)
+unfolding with_property behind_line written_property
 stated_more text p es r e rest u room h q =
     let w : List ℕ = written_property e in
     let front : List ℕ = flat_map written_property es in
     let joined : flat_map written_property (es ++ e ∷ []) ≡ front ++ w = flat_map_more written_property es e in
     record {
-      number = refl;
       place = omega (arith, u.place, ap length joined, length-append front w);
       lines = one_behind text r.place.at (drop p.at text) front w rest u.lines q ∙ ap (λ x. x ++ drop (r.place.at + length w) text) (sym joined);
       located = at_more (StandsAt text (set r.props (length es) (r.place.at + length prop_key))) _ es e
@@ -145,10 +145,11 @@ stated_more text p es r e rest u room h q =
 
 -- one more property line is read
 stated_next : (text : List ℕ) (n : ℕ) (p : LineStart) (es : List Expr) (r : Progress) (e : Expr) (rest : List ℕ) → n ≤ 7 → Stated text p es r → PlaceArrays r → length es < 4
-    → LegalExpr n false e → drop r.place.at text ≡ written_property e ++ rest → Stated text p (es ++ e ∷ []) (next_property text n (length es) r)
-unfolding next_property written_property
+    → LegalExpr n false e → drop r.place.at text ≡ written_property e ++ rest
+    → (next_property text n (length es) r ≡ Given (behind_property (length es) r e)) × Stated text p (es ++ e ∷ []) (behind_property (length es) r e)
+unfolding next_property propertied following unless_refused written_property
 stated_next text n p es r e rest b u room h l q =
-    rw (eq-eqb r.number 0 u.number, ap (state_line prop_key n) q ∙ (prop_reads n b).there e l rest) (stated_more text p es r e rest u room h q)
+    (rw (ap (state_line prop_key n) q ∙ (prop_reads n b).there e l rest), stated_more text p es r e rest u room h q)
 
 -- What the reading of the first i property lines has found.
 pub record Propertied (text : List ℕ) (n : ℕ) (p : LineStart) (i : ℕ) (r : Progress) : Type 0 where
@@ -157,41 +158,47 @@ pub record Propertied (text : List ℕ) (n : ℕ) (p : LineStart) (i : ℕ) (r :
   pub legal : LegalEach n props
   pub stated : Stated text p props r
 
--- a line without a number is read
-unrefused : (j : ℕ) (r : Progress) {s : List ℕ} {most : ℕ} {l : Line} → Heard s most l → (propertied j r l).number ≡ 0 → (v : ℕ) × (bytes : ℕ) × (l ≡ Read v bytes)
-unfolding propertied
-unrefused j r (fault number w) q = absurd (omega (arith, w.at_least))
-unrefused j r (said {v} {bytes} w) q = (v, bytes, refl)
+-- a line that is not refused is read
+unrefused : (j : ℕ) (r : Progress) (l : Line ℕ) {q : Progress} → propertied j r l ≡ Given q → (v : ℕ) × (bytes : ℕ) × (l ≡ Read v bytes)
+unfolding propertied following unless_refused
+unrefused j r (Fault number) q = cc
+unrefused j r (Read v bytes) q = (v, bytes, refl)
 
--- property lines that no number refuses are written forms of legal expressions
-pub properties_back : (text : List ℕ) (n : ℕ) (p : LineStart) → n ≤ 7 → (i : ℕ) → i ≤ 4 → (properties_read text n p i).number ≡ 0
-    → Propertied text n p i (properties_read text n p i)
+-- property lines that are read are written forms of legal expressions
+pub properties_back : (text : List ℕ) (n : ℕ) (p : LineStart) → n ≤ 7 → (i : ℕ) → i ≤ 4 → (r : Progress) → properties_read text n (none_read p) i ≡ Given r
+    → Propertied text n p i r
 unfolding properties_read next_property written_property
-properties_back text n p b zero h q = record { props = []; count = refl; legal = λ j k. absurd (omega arith); stated = stated_none text p }
-properties_back text n p b (suc i) h q =
-    let r = properties_read text n p i in
-    let w = unnumbered r _ q in
-    let found = properties_back text n p b i (omega arith) w.0 in
+properties_back text n p b zero h r q =
+    record { props = []; count = refl; legal = λ j k. absurd (omega arith); stated = subst (Stated text p []) (one_given q) (stated_none text p) }
+properties_back text n p b (suc i) h r q =
+    let w = given_before (properties_read text n (none_read p) i) (next_property text n i) q in
+    let before : Progress = w.0 in
+    let found = properties_back text n p b i (omega arith) before w.1 in
     let es = found.props in
-    let s = drop r.place.at text in
-    let v = unrefused i r (state_heard prop_key n s) w.1 in
+    let s = drop before.place.at text in
+    let v = unrefused i before (state_line prop_key n s) w.2 in
     let a = (prop_reads n b).back s v.0 v.1 v.2 in
+    let next = stated_next text n p es before a.0 a.2.0 b found.stated (given_of (properties_room text n p i) w.1) (omega (arith, found.count)) a.1 a.2.1 in
+    let same : behind_property (length es) before a.0 ≡ r = one_given (sym next.0 ∙ ap (λ m. next_property text n m before) found.count ∙ w.2) in
     record {
       props = es ++ a.0 ∷ [];
       count = omega (arith, found.count, length-append es (a.0 ∷ []));
       legal = at_more (λ _ x. LegalExpr n false x) _ es a.0 found.legal a.1;
-      stated = subst (λ m. Stated text p (es ++ a.0 ∷ []) (next_property text n m r)) found.count
-          (stated_next text n p es r a.0 a.2.0 b found.stated (properties_room text n p i) (omega (arith, found.count)) a.1 a.2.1);
+      stated = subst (Stated text p (es ++ a.0 ∷ [])) same next.1;
     }
+
+-- The lines of the properties es are read from a place on.
+abbrev pub ReadFrom : List ℕ → ℕ → LineStart → ℕ → List Expr → Type 0
+ReadFrom text n p j es = (r : Progress) × (properties_read text n (none_read p) j ≡ Given r) × Stated text p es r
 
 -- the first i of the properties that stand in the text, one after the other, are found
 some_there : (text : List ℕ) (n : ℕ) (p : LineStart) (es : List Expr) (rest : List ℕ) → n ≤ 7 → length es ≤ 4 → LegalEach n es
-    → drop p.at text ≡ flat_map written_property es ++ rest → (i : ℕ) → i ≤ length es → Stated text p (take i es) (properties_read text n p i)
+    → drop p.at text ≡ flat_map written_property es ++ rest → (i : ℕ) → i ≤ length es → ReadFrom text n p i (take i es)
 unfolding properties_read
-some_there text n p es rest b c l q zero h = stated_none text p
+some_there text n p es rest b c l q zero h = (none_read p, refl, stated_none text p)
 some_there text n p es rest b c l q (suc i) h =
-    let r = properties_read text n p i in
-    let found = some_there text n p es rest b c l q i (omega arith) in
+    let w = some_there text n p es rest b c l q i (omega arith) in
+    let r : Progress = w.0 in
     let front = take i es in
     let e = property_at es i in
     let others = flat_map written_property (drop (suc i) es) in
@@ -199,12 +206,16 @@ some_there text n p es rest b c l q (suc i) h =
     let cut : drop p.at text ≡ flat_map written_property front ++ (written_property e ++ (others ++ rest)) =
     q ∙ ap (λ x. x ++ rest) (flat_map_at written_property es i _ h) ∙ append_assoc (flat_map written_property front) (written_property e ++ others) rest
     ∙ ap (λ x. flat_map written_property front ++ x) (append_assoc (written_property e) others rest) in
-    subst₂ (λ x m. Stated text p x (next_property text n m r)) (sym (take-suc es i _ h)) count
-    (stated_next text n p front r e (others ++ rest) b found (properties_room text n p i) (omega arith) (l i h)
-    (ap (λ m. drop m text) found.place ∙ behind text p.at (flat_map written_property front) (written_property e ++ (others ++ rest)) cut))
+    let next =
+    stated_next text n p front r e (others ++ rest) b w.2 (given_of (properties_room text n p i) w.1) (omega arith) (l i h)
+    (ap (λ m. drop m text) w.2.place ∙ behind text p.at (flat_map written_property front) (written_property e ++ (others ++ rest)) cut) in (
+      behind_property (length front) r e,
+      given_next (next_property text n i) w.1 ∙ ap (λ m. next_property text n m r) (sym count) ∙ next.0,
+      subst (λ x. Stated text p x (behind_property (length front) r e)) (sym (take-suc es i _ h)) next.1,
+    )
 
 -- the properties that stand in the text, one after the other, are found
 pub properties_there : (text : List ℕ) (n : ℕ) (p : LineStart) (es : List Expr) (rest : List ℕ) → n ≤ 7 → length es ≤ 4 → LegalEach n es
-    → drop p.at text ≡ flat_map written_property es ++ rest → Stated text p es (properties_read text n p (length es))
+    → drop p.at text ≡ flat_map written_property es ++ rest → ReadFrom text n p (length es) es
 properties_there text n p es rest b c l q =
-    subst (λ x. Stated text p x (properties_read text n p (length es))) (take-length es) (some_there text n p es rest b c l q (length es) (omega arith))
+    subst (ReadFrom text n p (length es)) (take-length es) (some_there text n p es rest b c l q (length es) (omega arith))

@@ -2,7 +2,8 @@
 -- By arithmetic, and the two cases of the verdict.
 use Rattle.std.specs.Prelude.{◌*◌, ◌^◌, ◌<◌, ◌≡◌, Bool, true, false, cond}
 use Rattle.std.proofs.Common.{arith}
-use Rattle.packing.specs.Packing.{Parts, packed, InRange, Unpacked}
+use Rattle.packing.specs.declared.parts.Parts.{Parts}
+use Rattle.packing.specs.Packing.{packed, InRange, Unpacked}
 
 flag : (b : Bool) → (cond b (2 ^ 40) 0 ≡ 2 ^ 40 * cond b 1 0) × (cond b 1 0 < 2)
 flag true = omega arith

@@ -1,19 +1,17 @@
 -- The laws of the answer: the call is refused by the first number that fits, and an accepted one answers what the order leaves of the model.
 -- From the definitions in `Answer`, case by case. Assumes nothing.
-use Rattle.std.specs.Prelude.{ℕ, ◌≤◌, ◌<◌, ◌≡◌, refl, Bool, true, false, not, List}
+use Rattle.std.specs.Prelude.{ℕ, ◌^◌, ◌≤◌, ◌<◌, ◌≡◌, refl, Bool, true, false, not, List, Option, Some, None, IfSome}
 use Rattle.std.proofs.Math.Path.{sym}
 use Rattle.std.proofs.Common.{arith, pow_mono}
-use Rattle.sets.specs.declared.one_core.OneCore.{OneCore}
 use Rattle.sets.specs.Orders.{IsOrder, is_order}
+use Rattle.sets.specs.OneCore.{one_core_of}
 use Rattle.sets.specs.Laws.Cores.{false_if}
 use Rattle.sets.specs.Laws.Orders.{is_order_iff}
 use Rattle.sets.proofs.Laws.OneCore.{one_core_size}
-use Rattle.models.specs.declared.model.Outcome.{Outcome}
-use Rattle.models.specs.declared.model.Outcome.TheVariants.{Accepted, Refused}
+use Rattle.refusals.specs.Answers.{Accepted, Given, Outcome, Refused, RefusedBy}
 use Rattle.calls.specs.Answers.{rules_in, judge_in, ◌or_else◌, refused_if, text_outcome}
 use Rattle.calls.proofs.Laws.Answers.{rules_most, given_accepted, given_refused}
-use Rattle.preferences.specs.declared.answer.OneCoreAnswer.TheVariants.{Refused as OneCoreRefused}
-use Rattle.preferences.specs.Answer.{one_core_in, order_outcome, one_core_outcome, found_answer, one_core_answer}
+use Rattle.preferences.specs.Answer.{one_core_in, order_outcome, one_core_outcome, one_core_answer}
 
 -- The outcome of the call: refused by the text's number, by 13, or accepted, the first of these that fits. Demand 1 rests on this for the order of the
 -- numbers.
@@ -42,29 +40,25 @@ accepted_order text order e = (is_order_iff (rules_in text) order).0 (go (text_o
 
 -- What it finds is a set of the text's rules, by at most 17 judgements.
 pub one_core_fits : (text order : List ℕ) → one_core_outcome text order ≡ Accepted
-    → ((one_core_in text order).set < 65536) × ((one_core_in text order).judgements ≤ 17)
+    → IfSome (one_core_in text order).core (λ C. C < 65536) × ((one_core_in text order).judgements ≤ 17)
 unfolding one_core_in
 one_core_fits text order e =
     let size = one_core_size (rules_in text) (judge_in text) order in
-    (omega (arith, size.0, pow_mono (rules_most text)), omega (arith, size.1, (accepted_order text order e).size, rules_most text))
-
-pub found_told : (c : OneCore) (number line : ℕ) → ¬ (found_answer c ≡ OneCoreRefused number line)
-unfolding found_answer
-found_told c number line = go c.holds
+    (small (one_core_of (rules_in text) (judge_in text) order).core size.0, omega (arith, size.1, (accepted_order text order e).size, rules_most text))
   where
-    go : (b : Bool) → found_answer (record { holds = b; set = c.set; judgements = c.judgements }) ≡ OneCoreRefused number line → ⊥
-    go true q = let z : ◌≡◌ {A = ℕ} 0 1 = cc in omega arith
-    go false q = let z : ◌≡◌ {A = ℕ} 0 1 = cc in omega arith
+    small : (c : Option ℕ) → IfSome c (λ C. C < 2 ^ rules_in text) → IfSome c (λ C. C < 65536)
+    small None h = h
+    small (Some C) h = omega (arith, h, pow_mono (rules_most text))
 
 module _ (text order : List ℕ) where
-  pub one_core_by_text : {number line : ℕ} → text_outcome text ≡ Refused number line → OneCoreRefused number line ≡ one_core_answer text order
+  pub one_core_by_text : {number line : ℕ} → text_outcome text ≡ Refused number line → RefusedBy number line ≡ one_core_answer text order
   unfolding one_core_answer
-  one_core_by_text e = sym (given_refused OneCoreRefused _ ((one_core_numbers text order).by_text _ _ e))
+  one_core_by_text e = sym (given_refused _ ((one_core_numbers text order).by_text _ _ e))
 
-  pub one_core_by_order : text_outcome text ≡ Accepted → ¬ IsOrder (rules_in text) order → OneCoreRefused 13 0 ≡ one_core_answer text order
+  pub one_core_by_order : text_outcome text ≡ Accepted → ¬ IsOrder (rules_in text) order → RefusedBy 13 0 ≡ one_core_answer text order
   unfolding one_core_answer
-  one_core_by_order e n = sym (given_refused OneCoreRefused _ ((one_core_numbers text order).by_order e n))
+  one_core_by_order e n = sym (given_refused _ ((one_core_numbers text order).by_order e n))
 
-  pub one_core_given : text_outcome text ≡ Accepted → IsOrder (rules_in text) order → found_answer (one_core_in text order) ≡ one_core_answer text order
+  pub one_core_given : text_outcome text ≡ Accepted → IsOrder (rules_in text) order → Given (one_core_in text order) ≡ one_core_answer text order
   unfolding one_core_answer
-  one_core_given e o = sym (given_accepted OneCoreRefused _ ((one_core_numbers text order).by_none e o))
+  one_core_given e o = sym (given_accepted _ ((one_core_numbers text order).by_none e o))

@@ -20,8 +20,7 @@ use Rattle.lines.specs.Bytes.{bytes}
 use Rattle.lines.specs.Decimal.{digits_in, decimal}
 use Rattle.lines.specs.Written.{Rule, line}
 use Rattle.lines.proofs.Laws.Lines.{length_line}
-use Rattle.models.specs.declared.model.Outcome.{Outcome}
-use Rattle.models.specs.declared.model.Outcome.TheVariants.{Accepted, Refused}
+use Rattle.refusals.specs.Answers.{Outcome, Accepted, Refused}
 use Rattle.models.specs.Written.{Described, Legal, rule_at, model_in}
 use Rattle.models.proofs.Accepted.{told}
 use Rattle.models.specs.Changed.{by_property}

@@ -4,10 +4,9 @@ use Rattle.std.specs.Prelude.{ℕ, zero, suc, ◌+◌, ◌≡◌, refl, ◌≢�
 use Rattle.std.proofs.Common.{sym, subst, ◌∙◌, arith}
 use Rattle.std.proofs.Math.Bool.{true}
 use Rattle.lines.specs.declared.classes.Class.TheVariants.{InName}
-use Rattle.rule_lines.specs.declared.names.RuleLine.{RuleLine}
-use Rattle.rule_lines.specs.declared.names.RuleLine.TheVariants.{RuleFault, RuleRead}
+use Rattle.rule_lines.specs.declared.names.RuleParts.{RuleParts}
 use Rattle.lines.specs.Bytes.{prefix}
-use Rattle.lines.specs.Lines.{rule_key, line_length, is_line, value_of, unless_fault, fault_of}
+use Rattle.lines.specs.Lines.{Line, Fault, Read, rule_key, line_length, is_line, value_of, unless_fault, fault_of}
 use Rattle.rule_lines.specs.RuleLines.{is_named, step_length, start_fault, parts_fault, parts_at, rule_line}
 use Rattle.lines.proofs.Laws.Numbers.{tested}
 use Rattle.lines.proofs.Laws.Lines.{unfaulted}
@@ -61,14 +60,14 @@ module _ (n : ℕ) (taken : List ℕ → Bool) (at : ℕ) (s : List ℕ) where
   parts = drop (named + 1) value
 
   -- what the line is behind a name that no earlier rule has
-  abbrev behind_name : RuleLine
-  behind_name = unless_fault RuleFault (parts_fault n (step_length parts) parts) (RuleRead (parts_at at named parts) (line_length s + 1))
+  abbrev behind_name : Line RuleParts
+  behind_name = unless_fault Fault (parts_fault n (step_length parts) parts) (Read (parts_at at named parts) (line_length s + 1))
 
   -- 1 comes before 3, 3 before 4, and 4 before the numbers of the parts.
-  pub record RuleNumbers (l : RuleLine) : Type 0 where
-    pub by_line : is_line rule_key s ≡ false → l ≡ RuleFault 1
-    pub by_name : is_line rule_key s ≡ true → is_named value ≡ false → l ≡ RuleFault 3
-    pub by_taken : is_line rule_key s ≡ true → is_named value ≡ true → taken (take named value) ≡ true → l ≡ RuleFault 4
+  pub record RuleNumbers (l : Line RuleParts) : Type 0 where
+    pub by_line : is_line rule_key s ≡ false → l ≡ Fault 1
+    pub by_name : is_line rule_key s ≡ true → is_named value ≡ false → l ≡ Fault 3
+    pub by_taken : is_line rule_key s ≡ true → is_named value ≡ true → taken (take named value) ≡ true → l ≡ Fault 4
     pub by_rest : is_line rule_key s ≡ true → is_named value ≡ true → taken (take named value) ≡ false → l ≡ behind_name
 
   pub rule_numbers : RuleNumbers (rule_line n taken at s)
@@ -81,8 +80,8 @@ module _ (n : ℕ) (taken : List ℕ → Bool) (at : ℕ) (s : List ℕ) where
   }
 
   -- what is true in each of these cases is true of the line
-  pub by_rule : (P : RuleLine → Type 0) → (is_line rule_key s ≡ false → P (RuleFault 1)) → (is_line rule_key s ≡ true → is_named value ≡ false → P (RuleFault 3))
-      → (is_line rule_key s ≡ true → is_named value ≡ true → taken (take named value) ≡ true → P (RuleFault 4))
+  pub by_rule : (P : Line RuleParts → Type 0) → (is_line rule_key s ≡ false → P (Fault 1)) → (is_line rule_key s ≡ true → is_named value ≡ false → P (Fault 3))
+      → (is_line rule_key s ≡ true → is_named value ≡ true → taken (take named value) ≡ true → P (Fault 4))
       → (is_line rule_key s ≡ true → is_named value ≡ true → taken (take named value) ≡ false → P behind_name) → P (rule_line n taken at s)
   by_rule P one three four rest =
       let x = rule_numbers in

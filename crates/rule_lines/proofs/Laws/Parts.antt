@@ -1,6 +1,6 @@
 -- The parts of a rule are read exactly where they are written: the step part ends at the second `:`, no number refuses the parts of a legal rule, and parts
 -- that no number refuses are those of one. From the definitions of `RuleLines` and `Written`, by the laws of bytes and of expressions.
-use Rattle.std.specs.Prelude.{ℕ, ◌+◌, ◌≤◌, ◌<◌, ◌≡◌, refl, true, false, List, ◌∷◌, ◌++◌, eqb, ltb, length, get_or, take, drop}
+use Rattle.std.specs.Prelude.{ℕ, ◌+◌, ◌≤◌, ◌<◌, ◌≡◌, refl, true, false, List, ◌∷◌, ◌++◌, Some, None, eqb, ltb, length, get_or, take, drop}
 use Rattle.std.proofs.Common.{sym, ap, ap₂, ◌∙◌, append-nil, arith, add-one, eqb-true, lt-ltb, le-ltb, ltb-true, ltb-false, length-append, length-take-le}
 use Rattle.std.proofs.Math.Option.{Option, none, some}
 use Rattle.std.proofs.lemmas.Bool.{not-false}
@@ -12,7 +12,7 @@ use Rattle.lines.specs.Lines.{all, fault_of}
 use Rattle.lines.specs.Written.{LegalExpr, LegalStart, written_start}
 use Rattle.lines.specs.Laws.Bytes.{prefix_le, prefix_seam, prefix_ends}
 use Rattle.lines.proofs.Laws.Expressions.{fault_there, fault_back, legal_in_part}
-use Rattle.rule_lines.specs.RuleLines.{step_length, start_from, parts_fault}
+use Rattle.rule_lines.specs.RuleLines.{StartPlace, step_length, start_from, parts_fault}
 use Rattle.rule_lines.proofs.Laws.Numbers.{parts_numbers, by_parts}
 
 -- ---- where the step part ends
@@ -37,10 +37,10 @@ colon_behind e h =
 
 -- ---- the parts of a legal rule
 
--- how far behind the first byte of the step part the start part stands, 0 where there is none
-abbrev pub start_behind : Expr → Option Expr → ℕ
-start_behind step none = 0
-start_behind step (some e) = length (written step) + 1
+-- how far behind the first byte of the step part the start part stands, if there is one
+abbrev pub start_behind : Expr → Option Expr → StartPlace
+start_behind step none = None
+start_behind step (some e) = Some (length (written step) + 1)
 
 -- What reading finds of parts that are written.
 pub record Parted (n : ℕ) (step : Expr) (start : Option Expr) (e : List ℕ) : Type 0 where

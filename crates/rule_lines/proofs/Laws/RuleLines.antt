@@ -7,10 +7,9 @@ use Rattle.std.proofs.Math.Option.{Option, none, some}
 use Rattle.std.proofs.Math.Seq.{take-append_seam, get_or-append_seam, drop-append-add, split_at}
 use Rattle.exprs.specs.Expr.{Expr, written}
 use Rattle.lines.specs.declared.classes.Class.TheVariants.{InLine, InName}
-use Rattle.rule_lines.specs.declared.names.RuleLine.TheVariants.{RuleFault, RuleRead}
 use Rattle.rule_lines.specs.declared.names.RuleParts.{RuleParts}
 use Rattle.lines.specs.Bytes.{belongs, prefix}
-use Rattle.lines.specs.Lines.{rule_key, value_of, all}
+use Rattle.lines.specs.Lines.{Fault, Read, rule_key, value_of, all}
 use Rattle.rule_lines.specs.RuleLines.{is_named, parts_at, rule_line}
 use Rattle.lines.specs.Written.{Rule, Within, LegalStart, LegalRule, line, written_start, written_parts, written_rule}
 use Rattle.lines.specs.Laws.Bytes.{all_nil, all_append, all_more, all_in_line, prefix_seam, all_prefix}
@@ -20,8 +19,8 @@ use Rattle.rule_lines.proofs.Laws.Parts.{parts_there, parts_back}
 use Rattle.lines.proofs.Laws.Lines.{Reads, unfaulted_back, unfaulted, line_there, line_back}
 
 -- a rule line that is read is not refused
-no_rule_read : (parts : RuleParts) (bytes number : ℕ) → RuleFault number ≡ RuleRead parts bytes → ⊥
-no_rule_read parts bytes number q = let z : ◌≡◌ {A = ℕ} 0 1 = cc in omega arith
+no_rule_read : (parts : RuleParts) (bytes number : ℕ) → Fault number ≡ Read parts bytes → ⊥
+no_rule_read parts bytes number q = cc
 
 -- the value begins with the name and `:`, and the parts follow
 pub record Named (name parts v : List ℕ) : Type 0 where
@@ -85,7 +84,7 @@ unfolding all prefix belongs
 rule_key_in_line = refl
 
 pub rule_reads : (n : ℕ) → n ≤ 7 → (taken : List ℕ → Bool) (at : ℕ)
-    → Reads RuleRead (λ r. LegalRule n r × (taken r.name ≡ false)) written_rule (λ r. parts_at at (length r.name) (written_parts r)) (rule_line n taken at)
+    → Reads Read (λ r. LegalRule n r × (taken r.name ≡ false)) written_rule (λ r. parts_at at (length r.name) (written_parts r)) (rule_line n taken at)
 unfolding written_rule written_parts
 rule_reads n h taken at = record {
   there = λ r l rest.
@@ -96,16 +95,16 @@ rule_reads n h taken at = record {
       let p = parts_there n h r.step l.0.step r.start l.0.start in
       let v_is : value_of rule_key s ≡ v = b.value_is in
       (rule_numbers n taken at s).by_rest b.is (ap is_named v_is ∙ m.is) (rw (v_is, m.name_is) l.1)
-      ∙ rw (v_is, m.parts_are, m.bytes) (unfaulted RuleFault _ _ p.unrefused ∙ ap (RuleRead (parts_at at (length r.name) (written_parts r))) b.bytes);
+      ∙ rw (v_is, m.parts_are, m.bytes) (unfaulted Fault _ _ p.unrefused ∙ ap (Read (parts_at at (length r.name) (written_parts r))) b.bytes);
   back = λ s parts bytes.
       let v = value_of rule_key s in
       let k = prefix InName v in
-      by_rule n taken at s (λ x. x ≡ RuleRead parts bytes → (r : Rule) × (LegalRule n r × (taken r.name ≡ false)) × ((rest : List ℕ) × (s ≡ written_rule r ++ rest)))
+      by_rule n taken at s (λ x. x ≡ Read parts bytes → (r : Rule) × (LegalRule n r × (taken r.name ≡ false)) × ((rest : List ℕ) × (s ≡ written_rule r ++ rest)))
       (λ _ q. absurd (no_rule_read parts bytes 1 q))
       (λ _ _ q. absurd (no_rule_read parts bytes 3 q))
       (λ _ _ _ q. absurd (no_rule_read parts bytes 4 q))
       (λ a b c q.
-      let e = parts_back n (drop (k + 1) v) (unfaulted_back RuleFault _ _ _ (no_rule_read parts bytes) q) in
+      let e = parts_back n (drop (k + 1) v) (unfaulted_back Fault _ _ _ (no_rule_read parts bytes) q) in
       let m = named_back v b in
       let r = line_back rule_key rule_key_in_line s a in (
         record { name = take k v; step = e.step; start = e.start },

@@ -25,6 +25,13 @@ part_le {S} {T} p = has_le S T p.every
 pub part_antisym : {S T : ℕ} → S ⊑ T → T ⊑ S → S ≡ T
 part_antisym p q = omega (arith, part_le p, part_le q)
 
+-- The rules of a set that are not in another, where both are of R rules.
+pub and_rest : (R S T : ℕ) → S < 2 ^ R → T < 2 ^ R → bit_and S (full R - T) ≡ S - bit_and S T
+and_rest R S T hS hT =
+    part_antisym
+    (record { every = λ i e. let both = (has_and S (full R - T) i).0 e in (has_minus S T i).1 (both.0, ((has_rest R T i hT).0 both.1).1) })
+    (record { every = λ i e. let both = (has_minus S T i).0 e in (has_and S (full R - T) i).1 (both.0, (has_rest R T i hT).1 (has_below R S i hS both.0, both.1)) })
+
 -- A proper part has a smaller number.
 pub proper_lt : {S T : ℕ} → ProperPart S T → S < T
 proper_lt p = omega (arith, part_le p.within, p.other)

@@ -1,6 +1,7 @@
 -- The laws by which proofs use `least` and `any`: which number is the least one, that there is one only, and when some number passes.
 -- From the definitions. Assumes nothing.
-use Rattle.std.specs.Prelude.{ℕ, zero, suc, ◌+◌, ◌≤◌, ◌<◌, ◌≡◌, refl, Bool, true, false, ◌||◌, ltb}
+use Rattle.std.specs.Prelude.{ℕ, zero, suc, ◌+◌, ◌≤◌, ◌<◌, ◌≡◌, refl, Bool, true, false, ◌||◌, List, [], ◌∷◌, ltb, length, get_or, fold}
+use Rattle.std.proofs.Math.Bool.{or-false, or_assoc}
 use Rattle.std.proofs.Common.{sym, ap, ◌∙◌, ⊎_elim, true≢false, eq-or-lt_of_le, arith, ltb-true, lt-ltb}
 use mathlib.Mathlib.Data.Bool.Basic.{or_inl, or_inr, eq-false_of_not-eq-true}
 use Rattle.sets.specs.Laws.Choice.{alike, either}
@@ -88,3 +89,30 @@ any_next n p = alike (any n p || p n) (any (n + 1) p) (λ e. ⊎_elim old new (e
         (λ i. or_inr (any n p) (p n) (ap p (sym i) ∙ f))
         (λ i. or_inl (any n p) (p n) (any_intro n p (least (n + 1) p) i f))
         (eq-or-lt_of_le {n = least (n + 1) p} {m = n} (omega arith))
+
+-- ---- over a list
+
+-- The first number, and those behind it.
+any_first : (n : ℕ) (p : ℕ → Bool) → any (suc n) p ≡ (p 0 || any n (λ k. p (suc k)))
+unfolding any least
+any_first n p = go (p 0) refl
+  where
+    go : (b : Bool) → p 0 ≡ b → any (suc n) p ≡ (b || any n (λ k. p (suc k)))
+    go true e = any_intro (suc n) p 0 (omega arith) e
+    go false e =
+        let m : ℕ = least n (λ k. p (suc k)) in
+        ap (λ b. ltb (elim b [ true ↦ zero | false ↦ suc m ]) (suc n)) e
+        ∙ alike (ltb (suc m) (suc n)) (ltb m n)
+        (λ e. lt-ltb m n (omega (arith, ltb-true (suc m) (suc n) e)))
+        (λ e. lt-ltb (suc m) (suc n) (omega (arith, ltb-true m n e)))
+
+fold_or : (p : ℕ → Bool) (found : Bool) (xs : List ℕ) → fold (λ found x. found || p x) found xs ≡ (found || any (length xs) (λ k. p (get_or xs k 0)))
+fold_or p found [] = sym (ap (λ b. found || b) (any_none 0 (λ k. p (get_or [] k 0)) (λ k h. absurd (omega arith))) ∙ or-false found)
+fold_or p found (x ∷ xs) =
+    fold_or p (found || p x) xs
+    ∙ or_assoc found (p x) (any (length xs) (λ k. p (get_or xs k 0)))
+    ∙ ap (λ b. found || b) (sym (any_first (length xs) (λ k. p (get_or (x ∷ xs) k 0))))
+
+-- Whether an item of a list passes, by a fold that looks at each of them.
+pub fold_any : (p : ℕ → Bool) (xs : List ℕ) → fold (λ found x. found || p x) false xs ≡ any (length xs) (λ k. p (get_or xs k 0))
+fold_any p xs = fold_or p false xs

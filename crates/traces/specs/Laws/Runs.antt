@@ -1,81 +1,104 @@
--- The runs that the arrays of a search hold: the run at a place is the run at its parent's place and one state more, which stands there; there are as
--- many as are counted, at most 128. From the definitions and the laws of lists and of counts. Assumes nothing.
+-- The runs that the list of a search holds: the run at a place is the one at its parent's place and one state more, which stands there; there are as
+-- many as the list has entries, and an entry more is a run more. From the definitions and the laws of lists. Assumes nothing.
 use Prim.Native.Nat.{ℕ, zero, suc, ◌≤◌, ◌<◌}
-use Rattle.std.specs.Prelude.{◌≡◌, true, false, ltb, length, get_or, replicate}
+use Rattle.std.specs.Prelude.{◌≡◌, ◌+◌, Option, None, Some, length, get_or}
 use Rattle.std.proofs.Math.Path.{refl}
-use Rattle.std.proofs.Common.{sym, ap, ◌∙◌, ⊎_elim, arith, ltb-true, ltb-false}
+use Rattle.std.proofs.Common.{sym, ap, ◌∙◌, arith}
 use mathlib.Core.List.{List, [], ◌∷◌, ◌++◌}
-use mathlib.Mathlib.Data.Bool.Basic.{dichotomy}
 use borrow.Author.Count.{below_more}
-use Rattle.std.proofs.Math.ListN.{length-append, get_or-append, get_or-eq_default}
+use native.Mathlib.Numerals.{add-one}
+use Rattle.std.proofs.Math.ListN.{length-append, get_or-append}
+use Rattle.std.proofs.Math.Seq.{get_or-append_seam}
 use Rattle.std.proofs.lemmas.List.{get_or_at}
-use Rattle.traces.specs.declared.runs.Runs.{Runs}
-use Rattle.systems.specs.Laws.Count.{count_le}
+use Rattle.std.proofs.lemmas.List.Elements.{All-push}
+use Rattle.traces.specs.declared.runs.Run.{Run}
 use Rattle.systems.specs.System.{last}
 use Rattle.systems.specs.Laws.Walks.{last_snoc}
-use Rattle.traces.specs.Stored.{runs_to, runs_in, Sound}
+use Rattle.traces.specs.Stored.{no_run, before, runs_to, runs_in, Chained}
 
--- One run more leaves what stands at an earlier place, and that nothing stands at 128.
-pub same_place : (q : List (List ℕ)) (r : List ℕ) (p : ℕ) → length q < 128 → (p < 128 → p < length q) → get_or (q ++ (r ∷ [])) p [] ≡ get_or q p []
-same_place q r p h within = ⊎_elim far near (dichotomy (ltb p 128))
-  where
-    near : ltb p 128 ≡ true → get_or (q ++ (r ∷ [])) p [] ≡ get_or q p []
-    near e = get_or-append q (r ∷ []) [] p (within (ltb-true p 128 e))
+-- One run more leaves what stands before a run that extends an earlier one, or none.
+pub same_before : (q : List (List ℕ)) (r : List ℕ) (parent : Option ℕ) → ((p : ℕ) → parent ≡ Some p → p < length q)
+    → before (q ++ (r ∷ [])) parent ≡ before q parent
+unfolding before
+same_before q r None within = refl
+same_before q r (Some p) within = get_or-append q (r ∷ []) [] p (within p refl)
 
-    far : ltb p 128 ≡ false → get_or (q ++ (r ∷ [])) p [] ≡ get_or q p []
-    far e =
-        let g : 128 ≤ p = ltb-false p 128 e in
-        get_or-eq_default (q ++ (r ∷ [])) [] (omega (arith, length-append q (r ∷ []))) ∙ sym (get_or-eq_default q [] (omega arith))
+-- What is stored behind the first n runs leaves them.
+runs_front : (runs more : List Run) (n : ℕ) → n ≤ length runs → runs_to (runs ++ more) n ≡ runs_to runs n
+unfolding runs_to
+runs_front runs more zero h = refl
+runs_front runs more (suc n) h = rw (runs_front runs more n (omega arith), get_or-append runs more no_run n (omega arith))
 
-module _ (order parents : List ℕ) where
-  length_runs : (n : ℕ) → length (runs_to order parents n) ≡ n
+-- One entry more is one run more.
+pub runs_snoc : (runs : List Run) (r : Run) → runs_in (runs ++ (r ∷ [])) ≡ runs_in runs ++ ((before (runs_in runs) r.parent ++ (r.last ∷ [])) ∷ [])
+unfolding runs_in runs_to
+runs_snoc runs r = rw (length-append, add-one, runs_front runs (r ∷ []) (length runs) (omega arith), get_or-append_seam runs r [] no_run)
+
+module _ (runs : List Run) where
+  length_runs : (n : ℕ) → length (runs_to runs n) ≡ n
   unfolding runs_to
   length_runs zero = refl
   length_runs (suc n) = simp length-append (omega (arith, length_runs n))
 
-  runs_at : (n : ℕ) → n ≤ 128 → ((k : ℕ) → k < n → get_or parents k 0 < 128 → get_or parents k 0 < k) → (k : ℕ) → k < n
-      → get_or (runs_to order parents n) k [] ≡ get_or (runs_to order parents n) (get_or parents k 0) [] ++ (get_or order k 0 ∷ [])
+  runs_at : (n : ℕ) → ((k p : ℕ) → k < n → (get_or runs k no_run).parent ≡ Some p → p < k) → (k : ℕ) → k < n
+      → get_or (runs_to runs n) k [] ≡ before (runs_to runs n) (get_or runs k no_run).parent ++ ((get_or runs k no_run).last ∷ [])
   unfolding runs_to
-  runs_at zero h earlier k g = absurd (omega arith)
-  runs_at (suc n) h earlier k g =
-      below_more At n (λ k g. old k g (runs_at n (omega arith) (λ k g. earlier k (omega arith)) k g))
+  runs_at zero earlier k g = absurd (omega arith)
+  runs_at (suc n) earlier k g =
+      below_more At n (λ k g. old k g (runs_at n (λ k p g. earlier k p (omega arith)) k g))
       (get_or_at q new [] [] n (length_runs n) ∙ kept n (omega arith)) k (omega arith)
     where
       q : List (List ℕ)
-      q = runs_to order parents n
+      q = runs_to runs n
 
       new : List ℕ
-      new = get_or q (get_or parents n 0) [] ++ (get_or order n 0 ∷ [])
+      new = before q (get_or runs n no_run).parent ++ ((get_or runs n no_run).last ∷ [])
 
       At : ℕ → Type 0
-      At k = get_or (q ++ (new ∷ [])) k [] ≡ get_or (q ++ (new ∷ [])) (get_or parents k 0) [] ++ (get_or order k 0 ∷ [])
+      At k = get_or (q ++ (new ∷ [])) k [] ≡ before (q ++ (new ∷ [])) (get_or runs k no_run).parent ++ ((get_or runs k no_run).last ∷ [])
 
       kept : (k : ℕ) → k < suc n
-          → get_or q (get_or parents k 0) [] ++ (get_or order k 0 ∷ []) ≡ get_or (q ++ (new ∷ [])) (get_or parents k 0) [] ++ (get_or order k 0 ∷ [])
+          → before q (get_or runs k no_run).parent ++ ((get_or runs k no_run).last ∷ [])
+          ≡ before (q ++ (new ∷ [])) (get_or runs k no_run).parent ++ ((get_or runs k no_run).last ∷ [])
       kept k g =
-          ap (λ r. r ++ (get_or order k 0 ∷ []))
-          (sym (same_place q new (get_or parents k 0) (omega (arith, length_runs n)) (λ b. omega (arith, earlier k g b, length_runs n))))
+          ap (λ r. r ++ ((get_or runs k no_run).last ∷ []))
+          (sym (same_before q new (get_or runs k no_run).parent (λ p e. omega (arith, earlier k p g e, length_runs n))))
 
-      old : (k : ℕ) → k < n → get_or q k [] ≡ get_or q (get_or parents k 0) [] ++ (get_or order k 0 ∷ []) → At k
+      old : (k : ℕ) → k < n
+          → get_or q k [] ≡ before q (get_or runs k no_run).parent ++ ((get_or runs k no_run).last ∷ []) → At k
       old k g e = get_or-append q (new ∷ []) [] k (omega (arith, length_runs n)) ∙ e ∙ kept k (omega arith)
 
-module _ {x : Runs} (s : Sound x) where
-  pub sound_few : x.count ≤ 128
-  sound_few = omega (arith, s.counted, count_le 128 (λ u. get_or x.marks u false))
+pub length_runs_in : (runs : List Run) → length (runs_in runs) ≡ length runs
+unfolding runs_in
+length_runs_in runs = length_runs runs (length runs)
 
-  pub sound_length : length (runs_in x) ≡ x.count
+module _ {runs : List Run} (s : Chained runs) where
+  pub chained_run : (k : ℕ) → k < length runs
+      → get_or (runs_in runs) k [] ≡ before (runs_in runs) (get_or runs k no_run).parent ++ ((get_or runs k no_run).last ∷ [])
   unfolding runs_in
-  sound_length = length_runs x.order x.parents x.count
+  chained_run = runs_at runs (length runs) s.earlier
 
-  pub sound_run : (k : ℕ) → k < x.count → get_or (runs_in x) k [] ≡ get_or (runs_in x) (get_or x.parents k 0) [] ++ (get_or x.order k 0 ∷ [])
-  unfolding runs_in
-  sound_run = runs_at x.order x.parents x.count sound_few s.earlier
+  pub chained_last : (k : ℕ) → k < length runs → last (get_or (runs_in runs) k []) ≡ (get_or runs k no_run).last
+  chained_last k h =
+      ap last (chained_run k h) ∙ last_snoc (before (runs_in runs) (get_or runs k no_run).parent) (get_or runs k no_run).last
 
-  pub sound_last : (k : ℕ) → k < x.count → last (get_or (runs_in x) k []) ≡ get_or x.order k 0
-  sound_last k h = ap last (sound_run k h) ∙ last_snoc (get_or (runs_in x) (get_or x.parents k 0) []) (get_or x.order k 0)
+-- No run is chained,
+pub chained_none : Chained []
+chained_none = record { few = omega arith; states = λ k d h. absurd (omega arith); earlier = λ k p h e. absurd (omega arith) }
 
--- What is repeated stands at every place, and past the end as well.
-pub get_d_repeat : {A : Type 0} (n k : ℕ) (a : A) → get_or (replicate n a) k a ≡ a
-get_d_repeat zero k a = refl
-get_d_repeat (suc n) zero a = refl
-get_d_repeat (suc n) (suc k) a = get_d_repeat n k a
+-- and one more that extends one of those that are there, or none.
+pub chained_snoc : {runs : List Run} → Chained runs → (r : Run) → length runs < 128 → r.last < 128 → ((p : ℕ) → r.parent ≡ Some p → p < length runs)
+    → Chained (runs ++ (r ∷ []))
+chained_snoc {runs} c r room state within = record {
+  few = simp length-append (omega (arith, room));
+  states = All-push (λ run. run.last < 128) runs r c.states state;
+  earlier = λ k p h e. before_it k (simp length-append at h) p e;
+}
+  where
+    Earlier : ℕ → Type 0
+    Earlier k = (p : ℕ) → (get_or (runs ++ (r ∷ [])) k no_run).parent ≡ Some p → p < k
+
+    before_it : (k : ℕ) → k < length runs + 1 → Earlier k
+    before_it =
+        below_more Earlier (length runs) (λ k g p e. c.earlier k p g (rw (get_or-append runs (r ∷ []) no_run k g) at e))
+        (λ p e. within p (rw (get_or-append_seam runs r [] no_run) at e))

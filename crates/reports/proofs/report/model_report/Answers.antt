@@ -36,6 +36,6 @@ module _ (text : List ℕ) where
 pub returns : goal.returns
 returns c =
     put_as _ _ _ _
-    (both_put _ _ _ _ _ c.verdict_lines-q.ensures
-    (both_put _ _ _ _ _ c.kind_lines-s.ensures (both_put _ _ _ _ _ c.list_lines-t.ensures c.list_lines.ensures)))
+    (both_put _ _ _ _ _ c.verdict_lines.ensures
+    (both_put _ _ _ _ _ c.kind_lines.ensures (both_put _ _ _ _ _ c.list_lines.ensures c.list_lines-2.ensures)))
     (parts_are _)

@@ -1,7 +1,6 @@
 -- What is put is the report of the text as it was read.
 use Rattle.std.proofs.Common.{ℕ, ◌≡◌, sym, ap, List}
-use Rattle.models.specs.declared.model.Outcome.{Outcome}
-use Rattle.models.specs.declared.model.Outcome.TheVariants.{Accepted, Refused}
+use Rattle.refusals.specs.Answers.{Outcome, Accepted, Refused}
 use Rattle.models.specs.Written.{model_in}
 use Rattle.calls.specs.Answers.{text_outcome}
 use Rattle.calls.proofs.Laws.Answers.{is_read, is_refused}
@@ -23,12 +22,11 @@ module _ (text : List ℕ) where
   unfolding report_on
   accepted e = as_read Accepted e
 
-pub model_report-requires : goal.model_report-requires
-model_report-requires c = is_read _ c.read_model-reading.ensures c.in-Accepted.is
+pub invariant_of-model_report : goal.invariant_of-model_report
+invariant_of-model_report c = record { is_read = is_read _ c.read_model.ensures c.in-Ok.is }
 
-pub returns-in-Refused : goal.returns-in-Refused
-returns-in-Refused c = put_as _ _ _ _ c.refusal.ensures (refused _ _ _ (is_refused _ c.read_model-reading.ensures c.in-Refused.is))
+pub returns-in-Ok : goal.returns-in-Ok
+returns-in-Ok c = put_as _ _ _ _ c.model_report.ensures (accepted _ (is_read _ c.read_model.ensures c.in-Ok.is).outcome)
 
-pub returns-in-Accepted : goal.returns-in-Accepted
-returns-in-Accepted c =
-    put_as _ _ _ _ c.model_report.ensures (accepted _ (is_read _ c.read_model-reading.ensures c.in-Accepted.is).outcome)
+pub returns-in-Err : goal.returns-in-Err
+returns-in-Err c = put_as _ _ _ _ c.refusal_report.ensures (refused _ _ _ (is_refused _ c.read_model.ensures c.in-Err.is))

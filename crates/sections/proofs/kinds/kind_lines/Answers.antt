@@ -5,18 +5,18 @@ use Rattle.sections.proofs.Called.{kinds_read, kinds_are}
 use Rattle.sections.proofs.kinds.kind_lines.Goals as goal
 
 pub kinds-kinds-requires : goal.kinds-kinds-requires
-kinds-kinds-requires c = few c.requires
-
-pub set_line-q-requires : goal.set_line-q-requires
-set_line-q-requires c = search (kinds_read _ _ c.requires _ c.kinds-kinds.ensures)
-
-pub set_line-s-requires : goal.set_line-s-requires
-set_line-s-requires c = search (kinds_read _ _ c.requires _ c.kinds-kinds.ensures)
+kinds-kinds-requires c = few c.args.read.is_read
 
 pub set_line-requires : goal.set_line-requires
-set_line-requires c = search (kinds_read _ _ c.requires _ c.kinds-kinds.ensures)
+set_line-requires c = search (kinds_read _ _ c.args.read.is_read _ c.kinds-kinds.ensures)
+
+pub set_line-requires-2 : goal.set_line-requires-2
+set_line-requires-2 c = search (kinds_read _ _ c.args.read.is_read _ c.kinds-kinds.ensures)
+
+pub set_line-requires-3 : goal.set_line-requires-3
+set_line-requires-3 c = search (kinds_read _ _ c.args.read.is_read _ c.kinds-kinds.ensures)
 
 pub returns : goal.returns
 returns c =
-    put_as _ _ _ _ (both_put _ _ _ _ _ c.set_line-q.ensures (both_put _ _ _ _ _ c.set_line-s.ensures c.set_line.ensures))
-    (kinds_are _ _ c.requires _ c.kinds-kinds.ensures)
+    put_as _ _ _ _ (both_put _ _ _ _ _ c.set_line.ensures (both_put _ _ _ _ _ c.set_line-2.ensures c.set_line-3.ensures))
+    (kinds_are _ _ c.args.read.is_read _ c.kinds-kinds.ensures)

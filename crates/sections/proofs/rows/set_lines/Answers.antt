@@ -1,34 +1,38 @@
 -- A turn puts the line of the set that two bytes hold; behind the last turn nothing is left to put.
-use Rattle.std.proofs.Common.{ℕ, ◌+◌, ◌*◌, ◌/◌, ◌≤◌, ◌<◌, List, length, get_or, sym, ap, arith}
-use Rattle.models.specs.declared.model.Model.{Model}
+use Rattle.std.proofs.Common.{ℕ, ◌/◌, ◌≡◌, refl, ◌<◌, ◌∙◌, List, [], length, get_or, ap, arith}
+use Rattle.std.proofs.lemmas.List.Elements.{All-get_or}
+use Rattle.std.specs.List.{All}
+use Rattle.std.specs.Int.{w16, from_le_bytes}
+use Rattle.std.specs.Simd.{first_chunks}
 use Rattle.models.specs.Written.{model_in}
 use Rattle.pages.specs.Laws.Putting.{next, ended, put_as}
-use Rattle.sections.specs.Sections.{set_line, set_key}
+use Rattle.sections.specs.Sections.{set_line}
 use Rattle.sections.specs.Decoded.{decoded}
-use Rattle.sections.specs.Known.{SetRead, ListRead}
-use Rattle.sections.specs.Laws.Decoded.{decoded_length, decoded_at}
+use Rattle.sections.specs.Laws.Decoded.{decoded_length, chunk_at}
 use Rattle.sections.proofs.rows.set_lines.Goals as goal
 
--- the set at place i
-module _ (sets : List ℕ) (i : ℕ) (l : i < length sets / 2) where
-  within : i < length (decoded sets)
-  within = omega (arith, decoded_length sets)
+-- the chunks of the bytes, of which S is the set in chunk i
+module _ (sets : List ℕ) (pairs : List (List ℕ)) (chunks : pairs ≡ first_chunks 2 (length sets / 2) sets) (count : length pairs ≡ length sets / 2) where
+  as_many : length pairs ≡ length (decoded sets)
+  as_many = omega (arith, count, decoded_length sets)
 
-  known : (text : List ℕ) (m : Model) → ListRead text m sets → SetRead text m (get_or sets (2 * i) 0 + 256 * get_or sets (2 * i + 1) 0)
-  known text m k = record { read = k.read; below = omega (arith, k.below.each i within, decoded_at sets i l) }
+  is_decoded : (i S : ℕ) → i < length pairs → S ≡ from_le_bytes w16 (get_or pairs i []) → S ≡ get_or (decoded sets) i 0
+  is_decoded i S h e = e ∙ ap (λ l. from_le_bytes w16 (get_or l i [])) chunks ∙ chunk_at (length sets / 2) sets refl i (omega arith)
 
-all_put : (sets : List ℕ) (i : ℕ) → length sets / 2 ≤ i → length (decoded sets) ≤ i
-all_put sets i l = omega (arith, decoded_length sets)
+  below : (i S : ℕ) → i < length pairs → S ≡ from_le_bytes w16 (get_or pairs i []) → (bound : ℕ) → All (λ T. T < bound) (decoded sets) → S < bound
+  below i S h e bound all = rw (is_decoded i S h e) (All-get_or (λ T. T < bound) (decoded sets) i 0 (omega (arith, as_many)) all)
 
-pub listed_line-q-requires : goal.listed_line-q-requires
-listed_line-q-requires c = known _ _ c.loop-i-test.true _ _ c.requires
+pub set_line-requires : goal.set_line-requires
+set_line-requires c =
+    let k = c.as_chunks.ensures in
+    below _ _ k.front k.front_len _ _ c.loop-pair-test.true c.from_le_bytes.ensures _ c.requires
 
-pub loop-i-preserved : goal.loop-i-preserved
-loop-i-preserved c =
-    let a = c.args in
-    next _ _ _ _ _ c.loop-i.invariant (within _ _ c.loop-i-test.true) _
-    (put_as _ _ _ _ c.listed_line-q.ensures
-    (ap (set_line (model_in a.text.now) (set_key a.which)) (sym (decoded_at a.sets.now c.loop-i.i c.loop-i-test.true))))
+pub loop-pair-preserved : goal.loop-pair-preserved
+loop-pair-preserved c =
+    let k = c.as_chunks.ensures in
+    next _ _ _ _ _ c.loop-pair.invariant (omega (arith, as_many _ _ k.front k.front_len)) _
+    (put_as _ _ _ _ c.set_line.ensures
+    (ap (set_line (model_in c.args.read.text.now) c.args.key.now) (is_decoded _ _ k.front k.front_len _ _ c.loop-pair-test.true c.from_le_bytes.ensures)))
 
 pub returns : goal.returns
-returns c = ended _ _ _ _ _ c.loop-i.invariant (all_put _ _ c.loop-i-test.false)
+returns c = ended _ _ _ _ _ c.loop-pair.invariant (omega (arith, as_many _ _ c.as_chunks.ensures.front c.as_chunks.ensures.front_len))

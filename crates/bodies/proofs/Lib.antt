@@ -1,0 +1,2 @@
+-- What the function that counts property lines needs.
+pub mod Counting
