@@ -1,23 +1,18 @@
 // The reached states of a set of a model's rules.
 ghost use Rattle.std.specs.Prelude.{◌≡◌, ◌^◌, ◌<◌};
-ghost use Rattle.models.specs.Written.{described};
 ghost use Rattle.searches.specs.Stored.{reached_of};
+ghost use Rattle.semantics.specs.ByText.{described_by};
 ghost use Rattle.semantics.specs.Meaning.{system_of};
-ghost use Rattle.semantics.specs.TablesOf.{Few};
 
-use models::model::Model;
 use searches::runs::Reached;
 use semantics::filled::with_systems;
+use semantics::model_text::ModelText;
+use sets::ruleset::RuleSet;
 
-// The reached states of a set, and how many pairs of states were tried to collect them.
-pub fn reached(text: &[u8], m: Model, set: u16) -> Reached
-    requires few { Few m }
-    requires set_bound { set < 2 ^ m.rules }
-    ensures { result ≡ reached_of (system_of (described text.now m) set) }
+// The reached states of a set of the model's rules (asked as of `trace`), and how many pairs of states were tried to collect them.
+pub fn reached(m: ModelText, set: RuleSet) -> Reached
+    requires set_bound { set.0 < 2 ^ m.model.rules }
+    ensures { result ≡ reached_of (system_of (described_by m.entry) set.0) }
 {
-    with_systems(
-        text,
-        m,
-        |systems| searches::breadth_first::reached(systems, set),
-    )
+    with_systems(m, |systems| searches::breadth_first::reached(systems, set))
 }

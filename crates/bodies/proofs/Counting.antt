@@ -1,90 +1,84 @@
--- How many property lines are counted on the way through a text, and how many are still to be. From the definitions of `Properties`, by the laws of lines.
-use Prim.Native.Nat.{ℕ, zero, suc, ◌+◌, ◌-◌, ◌≤◌, ◌<◌}
-use mathlib.Core.Path.{◌≡◌, refl, sym, ap, ◌∙◌}
-use mathlib.Core.Bool.{true, false, false≢true}
-use mathlib.Core.List.{List, []}
-use native.Mathlib.Omega.{arith}
-use native.Mathlib.Decide.{dec_lt}
-use native.Mathlib.Numerals.{add-one}
-use lib.ListN.{length, drop, length-drop, drop_of_length-le}
-use lib.Seq.{drop-drop}
+-- The lines of a text as `split` gives them, and how many of them start with `prop=`. From the definitions of `Properties` and of `split`.
+use Rattle.std.specs.Prelude.{ℕ, zero, suc, ◌+◌, ◌≡◌, refl, Bool, true, false, cond, ◌&&◌, List, [], ◌∷◌, eqb, take, drop}
+use Rattle.std.specs.List.{prefix_len, slice_split, onto_first}
+use Rattle.std.proofs.Common.{sym, ap, ap₂, ◌∙◌, arith}
+use Rattle.std.proofs.lemmas.Bool.Decides.{nat_tests}
 use Rattle.slices.specs.Same.{same}
-use Rattle.lines.specs.declared.classes.Class.TheVariants.{InLine}
-use Rattle.lines.specs.Lines.{prop_key, starts_with, line_length}
-use Rattle.lines.specs.Laws.Bytes.{prefix_le}
+use Rattle.lines.specs.Lines.{prop_key, starts_with}
 use Rattle.bodies.specs.Properties.{after_line, leading, property_count}
-use Rattle.bodies.specs.Laws.Lines.{line_dropped}
 
--- ---- what is still to be counted
+abbrev pub is_end : ℕ → Bool
+is_end b = eqb b 10
 
--- Of s so many lines are counted, and the others begin at the place.
-pub record Counted (s : List ℕ) (count at : ℕ) : Type 0 where
-  pub least : 1 ≤ count
-  pub most : count ≤ 4
-  pub within : at ≤ length s + 1
-  pub total : property_count s ≡ count + leading (4 - count) (drop at s)
+-- the line that s begins with
+line_of : List ℕ → List ℕ
+line_of [] = []
+line_of (b ∷ s) = cond (is_end b) [] (b ∷ line_of s)
 
-behind_line_lem : (s : List ℕ) (at : ℕ) → drop (suc (line_length (drop at s))) (drop at s) ≡ drop (at + line_length (drop at s) + 1) s
-behind_line_lem s at =
-    let place : at + suc (line_length (drop at s)) ≡ at + line_length (drop at s) + 1 = omega arith in
-    drop-drop (suc (line_length (drop at s))) at s ∙ ap (λ n. drop n s) place
+-- the lines behind it
+lines_behind : List ℕ → List (List ℕ)
+lines_behind [] = []
+lines_behind (b ∷ s) = cond (is_end b) (slice_split is_end s) (lines_behind s)
 
-pub line_le : (s : List ℕ) → line_length s ≤ length s
-unfolding line_length
-line_le s = prefix_le InLine s
-
-pub first_counted : (s : List ℕ) → Counted s 1 (line_length s + 1)
-unfolding property_count
-first_counted s = record {
-  least = omega arith;
-  most = omega arith;
-  within = omega (arith, line_le s);
-  total = ap (λ t. suc (leading 3 t)) (line_dropped s ∙ ap (λ n. drop n s) (sym (add-one (line_length s)))) ∙ omega arith;
-}
-
-no_more : (most : ℕ) (s : List ℕ) → starts_with prop_key s ≡ false → leading most s ≡ 0
-unfolding leading
-no_more zero s f = refl
-no_more (suc most) s f = rw f refl
-
-one_more : (most : ℕ) (s : List ℕ) → starts_with prop_key s ≡ true → leading (suc most) s ≡ suc (leading most (after_line s))
-unfolding leading
-one_more most s t = rw t refl
-
--- a key that is found is within the text
-found_within : (s : List ℕ) (at : ℕ) → starts_with prop_key (drop at s) ≡ true → at ≤ length s
-unfolding same
-found_within s at t = go (dec_lt (length s) at)
+lines_are : (s : List ℕ) → slice_split is_end s ≡ line_of s ∷ lines_behind s
+unfolding line_of lines_behind
+lines_are [] = refl
+lines_are (b ∷ s) = go (is_end b) (lines_are s)
   where
-    out : length s ≤ at → drop at s ≡ []
-    out b = drop_of_length-le s b
+    go : (t : Bool) → slice_split is_end s ≡ line_of s ∷ lines_behind s → cond t ([] ∷ slice_split is_end s) (onto_first b (slice_split is_end s)) ≡ cond t [] (b ∷ line_of s) ∷ cond t (slice_split is_end s) (lines_behind s)
+    go true e = refl
+    go false e = ap (onto_first b) e
 
-    go : Dec (length s < at) → at ≤ length s
-    go (yes b) = absurd (false≢true (sym (ap (starts_with prop_key) (out (omega arith))) ∙ t))
-    go (no b) = omega arith
+-- a key has no end of a line
+abbrev KeyInLine : List ℕ → Type 0
+KeyInLine [] = Unit
+KeyInLine (k ∷ key) = (is_end k ≡ false) × KeyInLine key
 
--- the line at the place is none
-pub all_counted : (s : List ℕ) (count at : ℕ) → Counted s count at → starts_with prop_key (drop at s) ≡ false → property_count s ≡ count
-all_counted s count at h f = omega (arith, h.total, no_more (4 - count) (drop at s) f)
+-- so it stands at the start of the line, if it does at that of the text
+starts_line : (key s : List ℕ) → KeyInLine key → starts_with key (line_of s) ≡ starts_with key s
+unfolding line_of same
+starts_line [] s h = refl
+starts_line (k ∷ key) [] h = refl
+starts_line (k ∷ key) (b ∷ s) h = go (is_end b) refl (starts_line key s h.1)
+  where
+    go : (t : Bool) → is_end b ≡ t → starts_with key (line_of s) ≡ starts_with key s → starts_with (k ∷ key) (cond t [] (b ∷ line_of s)) ≡ (eqb b k && starts_with key s)
+    go true q e = rw (other q) refl
+      where
+        other : is_end b ≡ true → eqb b k ≡ false
+        other q = let no : is_end k ≡ false = h.0 in grind (arith, nat_tests)
+    go false q e = ap (λ t. eqb b k && t) e
 
--- four are counted
-pub none_left : (s : List ℕ) (count at : ℕ) → Counted s count at → 4 ≤ count → property_count s ≡ 4
+one_more : (n : ℕ) → 1 + n ≡ suc n
+one_more n = omega arith
+
+none_leads : (most : ℕ) → leading most [] ≡ 0
+unfolding leading same
+none_leads zero = refl
+none_leads (suc most) = refl
+
+leads_behind : (most : ℕ) → ((s : List ℕ) → prefix_len (starts_with prop_key) (take most (slice_split is_end s)) ≡ leading most s) → (s : List ℕ)
+    → prefix_len (starts_with prop_key) (take most (lines_behind s)) ≡ leading most (after_line s)
+unfolding lines_behind after_line
+leads_behind most f [] = none_behind most ∙ sym (none_leads most)
+  where
+    none_behind : (most : ℕ) → prefix_len (starts_with prop_key) (take most []) ≡ 0
+    none_behind zero = refl
+    none_behind (suc most) = refl
+leads_behind most f (b ∷ s) = go (is_end b) (leads_behind most f s)
+  where
+    go : (t : Bool) → prefix_len (starts_with prop_key) (take most (lines_behind s)) ≡ leading most (after_line s)
+        → prefix_len (starts_with prop_key) (take most (cond t (slice_split is_end s) (lines_behind s))) ≡ leading most (cond t s (after_line s))
+    go true e = f s
+    go false e = e
+
+leads : (most : ℕ) (s : List ℕ) → prefix_len (starts_with prop_key) (take most (slice_split is_end s)) ≡ leading most s
 unfolding leading
-none_left s count at h b =
-    let none : 4 - count ≡ 0 = omega arith in
-    omega (arith, h.total, h.most, ap (λ n. leading n (drop at s)) none)
+leads zero s = refl
+leads (suc most) s =
+    ap (λ l. prefix_len (starts_with prop_key) (take (suc most) l)) (lines_are s)
+    ∙ ap₂ (λ t n. cond t (1 + n) 0) (starts_line prop_key s (refl, (refl, (refl, (refl, (refl, tt)))))) (leads_behind most (leads most) s)
+    ∙ ap (λ n. cond (starts_with prop_key s) n 0) (one_more (leading most (after_line s)))
 
--- it is one
-pub next_within : (s : List ℕ) (at : ℕ) → starts_with prop_key (drop at s) ≡ true → at + line_length (drop at s) ≤ length s
-next_within s at t = omega (arith, found_within s at t, line_le (drop at s), length-drop at s)
-
-pub next_counted : (s : List ℕ) (count at : ℕ) → Counted s count at → starts_with prop_key (drop at s) ≡ true → count < 4
-    → Counted s (count + 1) (at + line_length (drop at s) + 1)
-next_counted s count at h t b =
-    let left : 4 - count ≡ suc (4 - (count + 1)) = omega arith in
-    let one : leading (4 - count) (drop at s) ≡ suc (leading (4 - (count + 1)) (drop (at + line_length (drop at s) + 1) s)) =
-    ap (λ n. leading n (drop at s)) left ∙ one_more (4 - (count + 1)) (drop at s) t
-    ∙ ap (λ x. suc (leading (4 - (count + 1)) x)) (line_dropped (drop at s) ∙ behind_line_lem s at) in
-    record { least = omega arith; most = omega arith; within = omega (arith, next_within s at t); total = omega (arith, h.total, one) }
-
-pub ruleset counting = (line_le, first_counted, all_counted, none_left, next_within, next_counted)
+pub count_by_lines : (s : List ℕ) → 1 + prefix_len (starts_with prop_key) (take 3 (drop 1 (slice_split is_end s))) ≡ property_count s
+unfolding property_count
+count_by_lines s = ap (λ l. 1 + prefix_len (starts_with prop_key) (take 3 (drop 1 l))) (lines_are s) ∙ ap (λ n. 1 + n) (leads_behind 3 (leads 3) s) ∙ one_more (leading 3 (after_line s))

@@ -1,2 +1,3 @@
--- What the function that counts property lines needs.
+-- `Counting` has what the function that counts property lines needs, `PartLines` what those that read the lines need.
 pub mod Counting
+pub mod PartLines

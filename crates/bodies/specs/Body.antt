@@ -34,11 +34,40 @@ abbrev pub left : {A B : Type 0} → Result B Refusal → A → Answer A
 left (Ok done) a = Given a
 left (Err refusal) a = RefusedBy (number_of refusal.reason) refusal.line
 
+-- ---- the lines of one kind, where `next` tells what the line at a place gives behind the earlier parts
+
+-- part i, put into the list behind the earlier ones, with the place behind its line
+unfoldable pub part_put : {A : Type 0} → (LineStart → List A → Answer (LineRead A)) → ℕ → LineStart × List A → Answer (LineStart × List A)
+unfolding unless_refused
+part_put next i r = unless_refused (next r.0 (take i r.1)) λ h. Given (h.place, set r.1 i h.value)
+
+-- the first so many parts, from a place on
+unfoldable pub parts_read : {A : Type 0} → (LineStart → List A → Answer (LineRead A)) → LineStart × List A → ℕ → Answer (LineStart × List A)
+unfolding unless_refused part_put
+parts_read next r zero = Given r
+parts_read next r (suc i) = unless_refused (parts_read next r i) (part_put next i)
+
+-- what an answer gives, or what there was before it where it gives nothing
+unfoldable pub given_or : {A : Type 0} → Answer A → A → A
+given_or (RefusedBy number line) before = before
+given_or (Given a) before = a
+
+-- what there is after so many steps: what the last of them gave that was not refused, or r
+unfoldable pub last_given : {A : Type 0} → (ℕ → Answer A) → A → ℕ → A
+unfolding given_or
+last_given so_far r zero = r
+last_given so_far r (suc i) = given_or (so_far (suc i)) (last_given so_far r i)
+
 -- ---- the property lines
 
 -- before the first property line
 unfoldable pub none_read : LineStart → Progress
 none_read p = record { place = p; props = replicate 4 0; parts = replicate 16 no_parts }
+
+-- what the line of a property says, its place in the text
+unfoldable pub property_part : List ℕ → ℕ → LineStart → List ℕ → Answer (LineRead ℕ)
+unfolding unless_refused following state_line
+property_part text n p earlier = unless_refused (following p (state_line prop_key n (drop p.at text))) λ h. Given (record { value = p.at + h.value; place = h.place })
 
 -- with property j, which stands at this place, before a line at the place p
 unfoldable pub with_property : Progress → ℕ → ℕ → LineStart → Progress
@@ -61,6 +90,11 @@ properties_read text n r zero = Given r
 properties_read text n r (suc j) = unless_refused (properties_read text n r j) (next_property text n j)
 
 -- ---- the rule lines
+
+-- what the line of a rule says, where its parts stand
+unfoldable pub rule_part : List ℕ → ℕ → LineStart → List RuleParts → Answer (LineRead RuleParts)
+unfolding following rule_line is_taken
+rule_part text n p earlier = following p (rule_line n (is_taken text earlier) p.at (drop p.at text))
 
 -- with rule i, whose parts stand at these places, before a line at the place p
 unfoldable pub with_rule : Progress → ℕ → RuleParts → LineStart → Progress

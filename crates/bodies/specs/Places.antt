@@ -1,6 +1,6 @@
 -- What reading asks of a place: that it is within the text, and that its line's number is no greater than the lines before it can have made it, so
 -- that no sum of places wraps. Assumes nothing: these are definitions.
-use Rattle.std.specs.Prelude.{ℕ, ◌+◌, ◌≤◌, ◌<◌, List, length}
+use Rattle.std.specs.Prelude.{ℕ, ◌+◌, ◌≤◌, List, length}
 use Rattle.bodies.specs.declared.progress.LineStart.{LineStart}
 
 -- a place of the text; each line before it has a byte at least
@@ -17,11 +17,6 @@ pub record EndsWithin (text : List ℕ) (p : LineStart) (bytes : ℕ) : Type 0 w
 pub record Passes (text : List ℕ) (p : LineStart) (bytes : ℕ) : Type 0 where
   pub within : p.at + bytes ≤ length text
   pub counted : p.line ≤ p.at + 1
-
--- the line of part i is due, a property or a rule, of which there are at most so many
-pub record PartDue (text : List ℕ) (most i : ℕ) (p : LineStart) : Type 0 where
-  pub part : i < most
-  pub place : Placed text p
 
 -- the lines of so many parts are due from the place on
 pub record PartsDue (text : List ℕ) (most count : ℕ) (p : LineStart) : Type 0 where

@@ -9,7 +9,8 @@ use lines::line::Said;
 use refusals::refusal::{Reason, Refusal};
 use rule_lines::names::RuleParts;
 
-// A place of the text where a line begins, and the number of this line.
+// A place of the text where a line begins, and the number of this line. Without the text: the place is moved on behind a `&mut`, where the text of a struct
+// could be exchanged for another.
 #[derive(Clone, Copy)]
 pub struct LineStart {
     pub at: usize,
@@ -23,7 +24,7 @@ pub struct LineRead<T> {
     pub place: LineStart,
 }
 
-// The property lines and rule lines read so far, and the place of the line that is due. The arrays have the greatest size: there is no heap.
+// The property lines and rule lines read so far, and the place of the line that is due. The arrays are those of the model that is made of them.
 #[derive(Clone, Copy)]
 pub struct Progress {
     pub place: LineStart,

@@ -1,44 +1,50 @@
 // The property lines: how many there are, and the reading of each.
 ghost use Rattle.std.specs.Prelude.{◌≡◌, ◌<◌};
 ghost use Rattle.bodies.specs.Properties.{property_count};
-ghost use Rattle.bodies.specs.Body.{left, next_property, properties_read};
-ghost use Rattle.bodies.specs.Places.{PartDue, PartsDue};
+ghost use Rattle.bodies.specs.Body.{left, properties_read, last_given};
+ghost use Rattle.bodies.specs.Places.{PartsDue};
 
-use crate::progress::Progress;
+use crate::parts::Part;
+use crate::progress::{LineRead, LineStart, Progress};
 use refusals::refusal::Refusal;
 
-// How many property lines s begins with, where one is due.
-#[tactic(auto, using(crate::proofs::Counting::counting))]
+// How many property lines s begins with, where one is due. The first is one whatever it holds, and at most three more are.
 pub fn property_count(s: &[u8]) -> usize
     ensures { result ≡ property_count s.now }
 {
-    let mut at = lines::line::line_length(s) + 1;
-    for count in 1..4 {
-        let next = slices::parts::rest(s, at);
-        if !lines::line::starts_with(b"prop=", next) {
-            return count;
-        }
-        at = at + lines::line::line_length(next) + 1;
+    let more = s
+        .split(|b| *b == b'\n')
+        .skip(1)
+        .take(3)
+        .take_while(|line| lines::line::starts_with(b"prop=", line))
+        .count();
+    1 + more
+}
+
+impl Part for usize {
+    ghost use Rattle.bodies.specs.Body.{property_part};
+
+    ghost part_at = { property_part };
+
+    #[tactic(auto, using(crate::specs::Laws::Ranges::state_ends, crate::specs::Laws::Ranges::state_begins), unfolding(crate::specs::Body::property_part, crate::specs::Body::unless_refused))]
+    fn part_at(
+        text: &[u8],
+        vars: usize,
+        place: LineStart,
+        _earlier: &[usize],
+    ) -> Result<LineRead<usize>, Refusal> {
+        let rest = slices::parts::rest(text, place.at);
+        let said = lines::expressions::state_line(b"prop=", vars, rest);
+        let line = crate::progress::on_line(text, place, said)?;
+        Ok(LineRead {
+            value: place.at + line.value,
+            place: line.place,
+        })
     }
-    4
 }
 
-// The line of property j.
-#[tactic(auto, using(crate::specs::Laws::Ranges::state_ends, crate::specs::Laws::Ranges::state_begins), unfolding(crate::specs::Body::next_property, crate::specs::Body::propertied, crate::specs::Body::unless_refused, crate::specs::Body::with_property))]
-fn next_property(text: &[u8], vars: usize, j: usize, r: &mut Progress) -> Result<(), Refusal>
-    requires { PartDue text.now 4 j r.old.place }
-    ensures { left result r.new ≡ next_property text.now vars j r.old }
-{
-    let place = r.place;
-    let said = lines::expressions::state_line(b"prop=", vars, slices::parts::rest(text, place.at));
-    let line = crate::progress::on_line(text, place, said)?;
-    r.props[j] = place.at + line.value;
-    r.place = line.place;
-    Ok(())
-}
-
-// So many property lines.
-#[tactic(auto, using(crate::specs::Laws::Ranges::property_due, crate::specs::Laws::Ranges::property_refuses), unfolding(crate::specs::Body::properties_read))]
+// So many property lines. It stands beside `rule_lines`: which field of the progress is written is all that they do, and each promises it.
+#[tactic(auto, using(crate::proofs::PartLines::properties_left))]
 pub fn property_lines(
     text: &[u8],
     vars: usize,
@@ -46,10 +52,8 @@ pub fn property_lines(
     r: &mut Progress,
 ) -> Result<(), Refusal>
     requires { PartsDue text.now 4 properties r.old.place }
-    ensures { left result r.new ≡ properties_read text.now vars r.old properties }
+    ensures reads { left result r.new ≡ properties_read text.now vars r.old properties }
+    ensures kept { r.new ≡ last_given (properties_read text.now vars r.old) r.old properties }
 {
-    for j in 0..properties {
-        next_property(text, vars, j, r)?;
-    }
-    Ok(())
+    crate::parts::part_lines(text, vars, properties, &mut r.place, &mut r.props)
 }

@@ -1,33 +1,36 @@
 // The rule lines.
-ghost use Rattle.std.specs.Prelude.{◌≡◌, ◌<◌};
-ghost use Rattle.bodies.specs.Body.{left, next_rule, rules_read};
-ghost use Rattle.bodies.specs.Places.{PartDue, PartsDue};
+ghost use Rattle.std.specs.Prelude.{◌≡◌};
+ghost use Rattle.bodies.specs.Body.{left, rules_read, last_given};
+ghost use Rattle.bodies.specs.Places.{PartsDue};
 
-use crate::progress::Progress;
+use crate::parts::Part;
+use crate::progress::{LineRead, LineStart, Progress};
 use refusals::refusal::Refusal;
+use rule_lines::names::RuleParts;
 
-// The line of rule i.
-#[tactic(auto, unfolding(crate::specs::Body::next_rule, crate::specs::Body::ruled, crate::specs::Body::unless_refused, crate::specs::Body::with_rule))]
-fn next_rule(text: &[u8], vars: usize, i: usize, r: &mut Progress) -> Result<(), Refusal>
-    requires { PartDue text.now 16 i r.old.place }
-    ensures { left result r.new ≡ next_rule text.now vars i r.old }
-{
-    let place = r.place;
-    let said = rule_lines::names::rule_line(text, place.at, vars, &r.parts[..i]);
-    let line = crate::progress::on_line(text, place, said)?;
-    r.parts[i] = line.value;
-    r.place = line.place;
-    Ok(())
+impl Part for RuleParts {
+    ghost use Rattle.bodies.specs.Body.{rule_part};
+
+    ghost part_at = { rule_part };
+
+    #[tactic(auto, unfolding(crate::specs::Body::rule_part))]
+    fn part_at(
+        text: &[u8],
+        vars: usize,
+        place: LineStart,
+        earlier: &[RuleParts],
+    ) -> Result<LineRead<RuleParts>, Refusal> {
+        let said = rule_lines::names::rule_line(text, place.at, vars, earlier);
+        crate::progress::on_line(text, place, said)
+    }
 }
 
 // So many rule lines behind the property lines.
-#[tactic(auto, using(crate::specs::Laws::Ranges::rule_due, crate::specs::Laws::Ranges::rule_refuses), unfolding(crate::specs::Body::rules_read))]
+#[tactic(auto, using(crate::proofs::PartLines::rules_left))]
 pub fn rule_lines(text: &[u8], vars: usize, rules: usize, r: &mut Progress) -> Result<(), Refusal>
     requires { PartsDue text.now 16 rules r.old.place }
-    ensures { left result r.new ≡ rules_read text.now vars r.old rules }
+    ensures reads { left result r.new ≡ rules_read text.now vars r.old rules }
+    ensures kept { r.new ≡ last_given (rules_read text.now vars r.old) r.old rules }
 {
-    for i in 0..rules {
-        next_rule(text, vars, i, r)?;
-    }
-    Ok(())
+    crate::parts::part_lines(text, vars, rules, &mut r.place, &mut r.parts)
 }

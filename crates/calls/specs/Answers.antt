@@ -86,6 +86,11 @@ unfoldable pub set_outcome : List ℕ → ℕ → Outcome
 unfolding refused_if rules_in
 set_outcome text S = refused_if (leb (2 ^ rules_in text) S) 10
 
+-- Reading a text and a set of its rules.
+unfoldable pub read_outcome : List ℕ → ℕ → Outcome
+unfolding ◌or_else◌ text_outcome set_outcome
+read_outcome text S = text_outcome text or_else set_outcome text S
+
 -- 11: the lent bytes are fewer than what is to be written.
 unfoldable pub length_outcome : List ℕ → List ℕ → Outcome
 unfolding refused_if
@@ -93,8 +98,8 @@ length_outcome new lent = refused_if (ltb (length lent) (length new)) 11
 
 -- A call that is handed a set, and writes these new bytes.
 unfoldable pub asked_outcome : (text : List ℕ) (S : ℕ) (new lent : List ℕ) → Outcome
-unfolding ◌or_else◌ text_outcome set_outcome length_outcome
-asked_outcome text S new lent = text_outcome text or_else set_outcome text S or_else length_outcome new lent
+unfolding ◌or_else◌ read_outcome length_outcome
+asked_outcome text S new lent = read_outcome text S or_else length_outcome new lent
 
 -- Judging a set needs one byte for each state of the trace; a set that holds needs none.
 unfoldable pub judge_outcome : List ℕ → ℕ → List ℕ → Outcome

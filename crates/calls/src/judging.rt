@@ -3,6 +3,7 @@ ghost use Rattle.std.specs.Prelude.{◌≡◌};
 ghost use Rattle.refusals.specs.Answers.{answer_of};
 ghost use Rattle.calls.specs.Answers.{judge_answer, judge_bytes};
 
+use crate::reading::read_with_set;
 use crate::verdict::Verdict;
 use refusals::refusal::{Reason, Refusal};
 
@@ -12,18 +13,15 @@ pub fn judge(text: &[u8], set: u32, lent: &mut [u8]) -> Result<Verdict, Refusal>
     ensures value { answer_of result ≡ judge_answer text.now set lent.old }
     ensures lent_after { lent.new ≡ judge_bytes text.now set lent.old }
 {
-    let m = models::model::read_model(text)?;
-    if sets::ruleset::set_count(m.rules) <= set as usize {
-        return Err(Reason::SetBeyond.at(0));
+    let (m, set) = read_with_set(text, set)?;
+    let trace = analysis::trace::trace(m, set);
+    let states = trace.states();
+    if lent.len() < states.len() {
+        return Err(Reason::BytesFewer.into());
     }
-    let trace = analysis::trace::trace(text, m, set as u16);
-    let n = trace.length;
-    if lent.len() < n {
-        return Err(Reason::BytesFewer.at(0));
-    }
-    if n == 0 {
+    if states.is_empty() {
         return Ok(Verdict::Holds);
     }
-    lent[..n].copy_from_slice(&trace.states[..n]);
-    Ok(Verdict::Broken(n))
+    lent[..states.len()].copy_from_slice(states);
+    Ok(Verdict::Broken(states.len()))
 }

@@ -6,4 +6,5 @@ pub mod judging;
 pub mod kinds;
 pub mod listing;
 pub mod reaching;
+pub mod reading;
 pub mod verdict;

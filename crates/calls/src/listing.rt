@@ -3,6 +3,7 @@ ghost use Rattle.std.specs.Prelude.{◌≡◌};
 ghost use Rattle.refusals.specs.Answers.{answer_of};
 ghost use Rattle.calls.specs.Answers.{list_answer, list_bytes};
 
+use crate::reading::read_text;
 use refusals::refusal::{Reason, Refusal};
 use sorting::which::WhichList;
 
@@ -11,6 +12,6 @@ pub fn list(text: &[u8], which: WhichList, lent: &mut [u8]) -> Result<usize, Ref
     ensures value { answer_of result ≡ list_answer which text.now lent.old }
     ensures lent_after { lent.new ≡ list_bytes which text.now lent.old }
 {
-    let m = models::model::read_model(text)?;
-    finding::lists::list(text, m, which, lent).ok_or(Reason::BytesFewer.at(0))
+    let m = read_text(text)?;
+    finding::lists::list(m, which, lent).ok_or(Reason::BytesFewer.into())
 }

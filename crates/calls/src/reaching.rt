@@ -2,19 +2,20 @@
 ghost use Rattle.std.specs.Prelude.{◌≡◌, false, ◌≤◌, length, get_or};
 ghost use mir.Val.{bool_byte};
 ghost use Rattle.refusals.specs.Answers.{answer_of};
-ghost use Rattle.sets.specs.Lists.{overwritten};
 ghost use Rattle.sets.specs.Tabulated.{tabulate};
 ghost use Rattle.calls.specs.Answers.{reached_answer, reached_bytes};
 
+use crate::reading::read_with_set;
 use refusals::refusal::{Reason, Refusal};
 
-// A byte for each of the first n states goes to the front of the lent bytes, 1 for a marked one; what is past them keeps its content.
-fn put_marks(marks: &[bool; 128], n: usize, lent: &mut [u8])
-    requires { (n ≤ 128) × (n ≤ length lent.old) }
-    ensures { lent.new ≡ overwritten (tabulate n (λ s. bool_byte (get_or marks.now s false))) lent.old }
+// A byte for each of the first states, 1 for a marked one.
+fn put_marks(marks: &[bool], bytes: &mut [u8])
+    requires { length bytes.old ≤ length marks.now }
+    ensures { bytes.new ≡ tabulate (length bytes.old) (λ s. bool_byte (get_or marks.now s false)) }
 {
-    for s in 0..n {
-        lent[s] = marks[s] as u8;
+    // by its index, since it was tried to zip both, and no proof closed: nothing is known of bytes that are written through such an iterator
+    for (s, byte) in bytes.iter_mut().enumerate() {
+        *byte = marks[s] as u8;
     }
 }
 
@@ -24,15 +25,12 @@ pub fn reach(text: &[u8], set: u32, lent: &mut [u8]) -> Result<usize, Refusal>
     ensures value { answer_of result ≡ reached_answer text.now set lent.old }
     ensures lent_after { lent.new ≡ reached_bytes text.now set lent.old }
 {
-    let m = models::model::read_model(text)?;
-    if sets::ruleset::set_count(m.rules) <= set as usize {
-        return Err(Reason::SetBeyond.at(0));
-    }
-    let states = semantics::tables::state_count(m.vars);
+    let (m, set) = read_with_set(text, set)?;
+    let states = semantics::tables::state_count(m.model.vars);
     if lent.len() < states {
-        return Err(Reason::BytesFewer.at(0));
+        return Err(Reason::BytesFewer.into());
     }
-    let reached = analysis::reached::reached(text, m, set as u16);
-    put_marks(&reached.marks, states, lent);
+    let reached = analysis::reached::reached(m, set);
+    put_marks(&reached.marks[..], &mut lent[..states]);
     Ok(reached.pairs)
 }

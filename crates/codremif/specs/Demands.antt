@@ -1,5 +1,5 @@
 -- The demands of the mission, as theorems about what exactly the calls answer and write. Nothing is assumed.
--- To believe them, read these files below crates/ in this order (lines without imports and blank lines, 1,990 in all). What is proved of their
+-- To believe them, read these files below crates/ in this order (lines without imports and blank lines, 2,014 in all). What is proved of their
 -- definitions stands in `Laws`, of specs/ or of proofs/, and need not be read, and neither need the functions that compute (the reading of a text,
 -- the verdict, the lists): the theorems say what they give.
 --   a number as a set of rules or of letters           sets/specs/Bit                8
@@ -7,19 +7,19 @@
 --   a number in base ten                               lines/specs/Decimal          10
 --   bytes, and those of a name                         lines/specs/Bytes            43
 --   a legal rule and its line                          lines/specs/Written          55
---   a model, when it is legal, its written form        models/specs/Written         81
+--   a model, when it is legal, its written form        models/specs/Written         83
 --   how many property lines a text has                 bodies/specs/Properties      16
 --   accepted texts are exactly these                   models/proofs/Accepted       34
 --   when a text is refused: the numbers 1 to 9         models/specs/Refusals       119
 --   the reading answers with the first that fits       models/proofs/Refused        29
 --   runs, reached, holds, the trace                    systems/specs/System         51
 --   how many numbers below a bound pass a test         systems/specs/Count           6
---   and 1 for one that passes, 0 for one that does not sets/specs/Gathered          11
+--   and 1 for one that passes, 0 for one that does not sets/specs/Gathered          19
 --   a list given entry by entry                        sets/specs/Tabulated          6
 --   the states that runs mark                          traces/specs/Marked           6
 --   the collecting of the reached states               searches/specs/Search        42
 --   what is to hold of it, for any system              searches/specs/Collecting    14
---   a log of states, and what it says                  logs/specs/Log               45
+--   a log of states, and what it says                  logs/specs/Log               44
 --   the transition system of a model and a set         semantics/specs/Meaning      51
 --   parts, sharing a rule, the order of a list         sets/specs/Sets              30
 --   cores and cuts of any judgement                    sets/specs/Cores             33
@@ -32,15 +32,15 @@
 --   what a set keeps of a list                         sets/specs/Kept               7
 --   a model that is changed in rules or properties     models/specs/Changed         35
 --   which list is meant, and which kind of rules       sorting/specs/Which          13
---   what each call answers and writes                  calls/specs/Answers         117
---   what finding one core answers                      preferences/specs/Answer     20
---   what blame from a log answers                      blaming/specs/Answer         24
+--   what each call answers and writes                  calls/specs/Answers         122
+--   what finding one core answers                      preferences/specs/Answer     17
+--   what blame from a log answers                      blaming/specs/Answer         21
 --   the number of each reason to refuse a call         refusals/specs/Numbers       18
 --   an answer, refused or given                        refusals/specs/Answers       18
 --   a list in bytes, and the first set that fits       lookup/specs/Search          25
 --   where a part of a slice lies                       slices/specs/Address         11
 --   what two lists say of a set, and the witness       lookup/specs/Suffices        54
---   an answer as one 64-bit number                     packing/specs/Packing        88
+--   an answer as one 64-bit number                     packing/specs/Packing        96
 --   demand 1 for a text                                codremif/specs/Demand1       89
 --   demand 2 for a text                                codremif/specs/Demand2       16
 --   demand 3 for a text                                codremif/specs/Demand3       89
@@ -48,9 +48,9 @@
 --   the quick answer, for any lists and for a text's   codremif/specs/Suffices      64
 --   several properties together, for a text            codremif/specs/Properties    51
 --   the reached states of a set, for a text            codremif/specs/Reached       21
---   one core by an order, for a text                   codremif/specs/OneCore       32
+--   one core by an order, for a text                   codremif/specs/OneCore       36
 --   rules that speak about power-up, for a text        codremif/specs/PowerUp       35
---   blame from a log, for a text                       codremif/specs/Blame         51
+--   blame from a log, for a text                       codremif/specs/Blame         55
 --   the starred examples                               codremif/specs/Examples     112
 use Rattle.std.specs.Prelude.{ℕ, ◌^◌, ◌<◌, ◌≡◌}
 use mathlib.Core.List.{List, Memᴰ}

@@ -1,4 +1,5 @@
-// The exports for a C host, under the names of include/codremif.h: each is the call of crate `codremif` with this name, with its promises.
+// The exports for a C host, under the names of include/codremif.h: each is the call of crate `codremif` with this name, with its promises. They only hand on,
+// since the C interface takes a static library, and no crate is that and a library on which others rest.
 #![tactic(auto)]
 
 ghost use Rattle.std.specs.Prelude.{◌≡◌, length};

@@ -6,7 +6,7 @@ ghost use Rattle.sets.specs.Bit.{has};
 ghost use Rattle.sets.specs.Sets.{with};
 ghost use Rattle.sets.specs.Cores.{is_core, is_cut};
 ghost use Rattle.sets.specs.Lists.{must_of};
-ghost use Rattle.systems.specs.ByTables.{judge_by};
+ghost use Rattle.systems.specs.BySystems.{judge_among};
 ghost use Rattle.marks.specs.Marks.{marked, table_by};
 ghost use Rattle.cores.specs.Seeds.{Addable, Growable, Grown, Going, Seed, Settled, Fresh, AllFound, Findable, FullHolds};
 
@@ -19,19 +19,19 @@ fn stays_broken(systems: Systems, unknown: &[u64], set: RuleSet, rule: usize) ->
     requires { Addable unknown.now set.0 rule }
     ensures { result ≡
         (not (has set.0 rule) && (marked unknown.now (with set.0 rule)
-        && not (judge_by systems.entry.masks.now systems.entry.tables.now (with set.0 rule)))) }
+        && not (judge_among systems.entry (with set.0 rule)))) }
 {
     let more = set.with(rule);
     !set.has(rule)
         && marks::table::is_marked(unknown, more)
-        && !verdicts::verdict::is_held(systems, more.0)
+        && !verdicts::verdict::is_held(systems, more)
 }
 
 // A broken set above the seed to which no rule can be added so that it stays broken: they are added one by one.
 fn grow(systems: Systems, unknown: &[u64], seed: RuleSet) -> RuleSet
-    requires { Growable systems.tables.now.rules (judge_by systems.masks.now systems.tables.now) unknown.now seed.0 }
+    requires { Growable systems.tables.now.rules (judge_among systems) unknown.now seed.0 }
     ensures { let s = systems.entry in
-        Grown s.tables.now.rules (judge_by s.masks.now s.tables.now) seed.0 s.tables.now.rules result.0 }
+        Grown s.tables.now.rules (judge_among s) seed.0 s.tables.now.rules result.0 }
 {
     let mut most = seed;
     for i in 0..systems.tables.rules {
@@ -45,31 +45,29 @@ fn grow(systems: Systems, unknown: &[u64], seed: RuleSet) -> RuleSet
 // Judges the seed, and notes the core or the cut that it leads to and what that says of other sets. The three tables are in no struct: behind a `&mut` of
 // one a slice could be exchanged for another, so each promise would have to speak of lengths as well.
 fn settle(systems: Systems, unknown: &mut [u64], cores: &mut [u64], cuts: &mut [u64], seed: RuleSet)
-    requires going { Going systems.tables.now.rules (judge_by systems.masks.now systems.tables.now) unknown.old cores.old cuts.old }
+    requires going { Going systems.tables.now.rules (judge_among systems) unknown.old cores.old cuts.old }
     requires seed { Seed systems.tables.now.rules (marked unknown.old) seed.0 }
     ensures { let s = systems.entry in
-        Settled s.tables.now.rules (judge_by s.masks.now s.tables.now) seed.0 unknown.old unknown.new cores.new cuts.new }
+        Settled s.tables.now.rules (judge_among s) seed.0 unknown.old unknown.new cores.new cuts.new }
 {
-    if verdicts::verdict::is_held(systems, seed.0) {
+    if verdicts::verdict::is_held(systems, seed) {
         marks::table::clear_above(unknown, seed);
         marks::table::mark(cores, seed);
     } else {
         let most = grow(systems, unknown, seed);
         marks::table::clear_below(unknown, most);
-        marks::table::mark(
-            cuts,
-            RuleSet(RuleSet::full(systems.tables.rules).0 - most.0),
-        );
+        marks::table::mark(cuts, RuleSet::full(systems.tables.rules).less(most));
     }
 }
 
 // Settles every set. When it is called nothing is known of any set, and no core or cut is marked.
 fn settle_all(systems: Systems, unknown: &mut [u64], cores: &mut [u64], cuts: &mut [u64])
     requires { Fresh systems.tables.now.rules unknown.old cores.old cuts.old }
-    ensures { let s = systems.entry in AllFound s.tables.now.rules (judge_by s.masks.now s.tables.now) unknown.new cores.new cuts.new }
+    ensures { let s = systems.entry in AllFound s.tables.now.rules (judge_among s) unknown.new cores.new cuts.new }
 {
     let end = sets::ruleset::set_count(systems.tables.rules);
     let mut from = 0;
+    // No iterator over the marks: it would hold the table, which each settled seed changes.
     while let Some(s) = marks::table::first_marked(unknown, from, end) {
         settle(systems, unknown, cores, cuts, RuleSet(s as u16));
         from = s + 1;
@@ -81,9 +79,9 @@ pub fn find(systems: Systems, unknown: &mut [u64], cores: &mut [u64], cuts: &mut
     requires { Findable systems.tables.now.rules unknown.old cores.old cuts.old }
     ensures unknown_after { unknown.new ≡ table_by systems.entry.tables.now.rules (λ S. false) }
     ensures cores_after { let s = systems.entry in
-        cores.new ≡ table_by s.tables.now.rules (is_core (judge_by s.masks.now s.tables.now)) }
+        cores.new ≡ table_by s.tables.now.rules (is_core (judge_among s)) }
     ensures cuts_after { let s = systems.entry in
-        cuts.new ≡ table_by s.tables.now.rules (is_cut s.tables.now.rules (judge_by s.masks.now s.tables.now)) }
+        cuts.new ≡ table_by s.tables.now.rules (is_cut s.tables.now.rules (judge_among s)) }
 {
     unknown.fill(marks::table::all_in_word(systems.tables.rules));
     cores.fill(0);
@@ -93,29 +91,29 @@ pub fn find(systems: Systems, unknown: &mut [u64], cores: &mut [u64], cuts: &mut
 
 // The rules without which the full set, which holds, is broken: those that can be spared are dropped. One judgement for each rule.
 fn needed(systems: Systems, all: RuleSet) -> RuleSet
-    requires { FullHolds systems.tables.now.rules (judge_by systems.masks.now systems.tables.now) all.0 }
-    ensures { let s = systems.entry in result.0 ≡ must_of s.tables.now.rules (judge_by s.masks.now s.tables.now) }
+    requires { FullHolds systems.tables.now.rules (judge_among systems) all.0 }
+    ensures { let s = systems.entry in result.0 ≡ must_of s.tables.now.rules (judge_among s) }
 {
     let mut must = all;
     for i in 0..systems.tables.rules {
         let less = all.without(i);
         let fewer = must.without(i);
-        if verdicts::verdict::is_held(systems, less.0) {
+        if verdicts::verdict::is_held(systems, less) {
             must = fewer;
         }
     }
     must
 }
 
-// The rules that all cores have in common; if there is no core, none.
+// The rules that all cores have in common; if there is no core, none, as MUST is defined: no Option tells it.
 pub fn must_of(systems: Systems) -> RuleSet
     requires { systems.tables.now.rules ≤ 16 }
-    ensures { let s = systems.entry in result.0 ≡ must_of s.tables.now.rules (judge_by s.masks.now s.tables.now) }
+    ensures { let s = systems.entry in result.0 ≡ must_of s.tables.now.rules (judge_among s) }
 {
     let all = RuleSet::full(systems.tables.rules);
-    if verdicts::verdict::is_held(systems, all.0) {
+    if verdicts::verdict::is_held(systems, all) {
         needed(systems, all)
     } else {
-        RuleSet::empty()
+        RuleSet::EMPTY
     }
 }

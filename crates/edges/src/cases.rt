@@ -2,7 +2,7 @@
 // bytes are lent, at most eight, and field 4 a set; of a look-up field 2 is the core list and field 3 the cut list, of one core field 3 is the order, and of
 // blame the log.
 use crate::fields;
-use crate::shown::{self, Accepted, BlamedIn, Pairs, Sets, Show};
+use crate::shown::{self, Accepted, BlamedIn, Counted, Show};
 use sorting::kinds::Kind;
 use sorting::which::WhichList;
 use std::alloc::Global;
@@ -42,13 +42,13 @@ impl Case<'_> {
 
     fn reach(self, out: &mut impl Write) -> io::Result<()> {
         lend(out, self.room, |lent| {
-            calls::reaching::reach(self.first, self.set, lent).map(Pairs)
+            calls::reaching::reach(self.first, self.set, lent).map(|pairs| Counted("pairs", pairs))
         })
     }
 
     fn list(self, out: &mut impl Write, which: WhichList) -> io::Result<()> {
         lend(out, self.room, |lent| {
-            calls::listing::list(self.first, which, lent).map(Sets)
+            calls::listing::list(self.first, which, lent).map(|sets| Counted("sets", sets))
         })
     }
 
@@ -112,7 +112,7 @@ impl Case<'_> {
     }
 }
 
-// The case's name, and what the call answers.
+// The case's name, and what the call answers. A field that a case lacks is empty: a call that asks none has no field.
 pub(crate) fn run_line(alloc: Global, out: &mut impl Write, line: &str) -> io::Result<()> {
     let mut fields = line.split(';');
     let call = fields.next().unwrap_or("");

@@ -4,12 +4,12 @@ ghost use Rattle.std.specs.Prelude.{◌<◌, length, IfSome};
 
 use std::alloc::{AllocError, Global};
 
-// The number in a field; a field that is none counts as 0.
+// The number in a field; a field that is none counts as 0, since the cases leave a field empty that their call does not ask.
 pub(crate) fn number(field: &str) -> u32 {
     field.parse().unwrap_or(0)
 }
 
-// The value of a digit of base 16.
+// The value of a digit of base 16; another byte, which no case has there, counts as 0. Not by `to_digit`, which reads capital letters, too.
 fn digit(b: u8) -> u8
     ensures { result < 16 }
 {
@@ -33,7 +33,7 @@ fn first_byte(field: &[u8]) -> Option<(u8, &[u8])>
     }
 }
 
-// The bytes that a field tells.
+// The bytes that a field tells. A loop: `successors` with `collect` was tried, and has no proof, since the library takes `successors` to be endless.
 pub(crate) fn bytes(alloc: Global, field: &str) -> Result<Vec<u8>, AllocError> {
     let mut told = Vec::new(alloc);
     let mut left = field.as_bytes();

@@ -7,7 +7,7 @@ use sets::one_core::OneCore;
 use std::io;
 use std::io::Write;
 
-// What an accepted call answers, or whether it was accepted.
+// What an accepted call answers, or whether it was accepted. No Display: four of the types are those of other crates, for which it cannot be implemented here.
 pub(crate) trait Show {
     fn show<W: Write>(self, out: &mut W) -> io::Result<()>;
 }
@@ -16,13 +16,9 @@ pub(crate) trait Show {
 #[derive(Clone, Copy)]
 pub(crate) struct Accepted;
 
-// So many pairs of states that were tried.
+// A word for what was counted, and how many there are.
 #[derive(Clone, Copy)]
-pub(crate) struct Pairs(pub usize);
-
-// So many sets of a list.
-#[derive(Clone, Copy)]
-pub(crate) struct Sets(pub usize);
+pub(crate) struct Counted(pub &'static str, pub usize);
 
 // What was blamed from a log of so many states.
 #[derive(Clone, Copy)]
@@ -32,11 +28,7 @@ impl<A: Show + Drop> Show for Result<A, Refusal> {
     fn show<W: Write>(self, out: &mut W) -> io::Result<()> {
         match self {
             Ok(answer) => answer.show(out),
-            Err(refusal) => {
-                let number = refusal.reason.number();
-                let line = refusal.line;
-                write!(out, "refused={number} line={line}")
-            }
+            Err(refusal) => refused(out, refusal, '='),
         }
     }
 }
@@ -56,17 +48,10 @@ impl Show for Verdict {
     }
 }
 
-impl Show for Pairs {
+impl Show for Counted {
     fn show<W: Write>(self, out: &mut W) -> io::Result<()> {
-        let Pairs(pairs) = self;
-        write!(out, "pairs={pairs}")
-    }
-}
-
-impl Show for Sets {
-    fn show<W: Write>(self, out: &mut W) -> io::Result<()> {
-        let Sets(sets) = self;
-        write!(out, "sets={sets}")
+        let Counted(word, n) = self;
+        write!(out, "{word}={n}")
     }
 }
 
@@ -100,6 +85,13 @@ impl Show for Suffices {
     }
 }
 
+// A refusal's number and line, each behind its word and a sign.
+fn refused(out: &mut impl Write, refusal: Refusal, sign: char) -> io::Result<()> {
+    let number = refusal.reason.number();
+    let line = refusal.line;
+    write!(out, "refused{sign}{number} line{sign}{line}")
+}
+
 // The rules of a kind behind its key; there a refusal is written without `=`.
 pub(crate) fn rules(
     out: &mut impl Write,
@@ -109,11 +101,7 @@ pub(crate) fn rules(
     write!(out, "{key}")?;
     match answer {
         Ok(set) => write!(out, "{set}"),
-        Err(refusal) => {
-            let number = refusal.reason.number();
-            let line = refusal.line;
-            write!(out, "refused {number} line {line}")
-        }
+        Err(refusal) => refused(out, refusal, ' '),
     }
 }
 

@@ -1,3 +1,3 @@
 -- What the proofs of several functions use.
-mod Operands
-mod Letters
+pub mod Operands
+pub mod Letters

@@ -30,7 +30,7 @@ unfoldable pub words_of : List ℕ → ℕ → ℕ → Option (ℕ × ℕ)
 unfolding words_in
 words_of s now block = words_in now block (read_expr s)
 
--- an operator at the values of its operands; `!` looks at the first only
+-- an operator at the values of its operands; `!` looks at the first only, and what is no operator gives false
 abbrev pub combined : Token → Bool → Bool → Bool
 combined (Constant v) x y = false
 combined (Now i) x y = false
@@ -42,9 +42,13 @@ combined Implies x y = not x || y
 combined Alike x y = beq x y
 combined Other x y = false
 
--- an operator at the words of its operands
-abbrev pub combined_word : Token → ℕ → ℕ → ℕ
-combined_word t x y = set_of 64 (λ i. combined t (has x i) (has y i))
+-- negation at the word of its operand
+abbrev pub negation_word : ℕ → ℕ
+negation_word x = set_of 64 (λ i. not (has x i))
+
+-- an operator with two operands at their words
+abbrev pub binary_word : Token → ℕ → ℕ → ℕ
+binary_word t x y = set_of 64 (λ i. combined t (has x i) (has y i))
 
 -- a byte at 64 next states, where no operand follows
 abbrev pub leaf_word : ℕ → ℕ → Token → ℕ

@@ -1,6 +1,6 @@
 -- What each byte of an expression stands for, and how many operands follow it.
 -- The whole alphabet of expressions stands here and nowhere else.
-use Rattle.std.specs.Prelude.{ℕ, ◌-◌, true, false, cond, ◌&&◌, eqb, leb}
+use Rattle.std.specs.Prelude.{ℕ, ◌-◌, true, false, cond, ◌&&◌, eqb, leb, Option, Some, None}
 use Rattle.exprs.specs.declared.token.Token.{Token}
 use Rattle.exprs.specs.declared.token.Token.TheVariants.{Constant, Now, Next, Not, And, Or, Implies, Alike, Other}
 
@@ -18,13 +18,14 @@ token_of b =
     (cond (leb 65 b && leb b 71) (Next (b - 65))
     Other))))))))
 
-abbrev pub operand_count : Token → ℕ
-operand_count (Constant v) = 0
-operand_count (Now i) = 0
-operand_count (Next i) = 0
-operand_count Not = 1
-operand_count And = 2
-operand_count Or = 2
-operand_count Implies = 2
-operand_count Alike = 2
-operand_count Other = 0
+-- how many operands follow a byte; none is said of a byte that no expression has
+abbrev pub operand_count : Token → Option ℕ
+operand_count (Constant v) = Some 0
+operand_count (Now i) = Some 0
+operand_count (Next i) = Some 0
+operand_count Not = Some 1
+operand_count And = Some 2
+operand_count Or = Some 2
+operand_count Implies = Some 2
+operand_count Alike = Some 2
+operand_count Other = None

@@ -14,17 +14,20 @@ impl Worth for Bytes {
 
     ghost leaf_worth = { λ w t. tt };
 
-    ghost operator_worth = { λ w t x y. tt };
+    ghost negation_worth = { λ w x. tt };
+
+    ghost binary_worth = { λ w t x y. tt };
 
     fn leaf(self, _t: Token) {}
 
-    fn operator(self, _t: Token, _x: (), _y: ()) {}
+    fn negation(self, _x: ()) {}
+
+    fn binary(self, _t: Token, _x: (), _y: ()) {}
 }
 
 // How many bytes the expression has that a slice begins with, or that none stands there.
 pub fn read(s: &[u8]) -> Option<usize>
     ensures { result ≡ read_of s.now }
 {
-    let (_, bytes) = crate::evaluation::evaluate(Bytes, s)?;
-    Some(bytes)
+    crate::evaluation::evaluate(Bytes, s).map(|(_, bytes)| bytes)
 }

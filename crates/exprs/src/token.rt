@@ -1,8 +1,10 @@
 // The bytes of which expressions are made.
 ghost use Rattle.std.specs.Prelude.{◌≡◌};
-ghost use Rattle.exprs.specs.Token.{token_of, operand_count};
+ghost use Rattle.exprs.specs.Token.{token_of};
 
 // What one byte stands for. A letter has its place in the alphabet: 0 for `a` and `A`.
+// `Other` and no Option: the definitions ask of every byte of a text what its token allows (`before`, `allowed`), so an Option would be a case within a case.
+// One flat enum: groups by how many operands follow would be three types, and a pattern two deep wherever one token is meant.
 #[derive(Clone, Copy, Debug, PartialEq, Eq)]
 pub enum Token {
     Constant(bool),
@@ -31,16 +33,5 @@ pub fn classify(b: u8) -> Token
         b'a'..=b'g' => Token::Now(b - b'a'),
         b'A'..=b'G' => Token::Next(b - b'A'),
         _ => Token::Other,
-    }
-}
-
-// How many operands follow. A byte that no expression has is given none.
-pub(crate) fn operand_count(t: Token) -> usize
-    ensures { result ≡ operand_count t }
-{
-    match t {
-        Token::Not => 1,
-        Token::And | Token::Or | Token::Implies | Token::Alike => 2,
-        _ => 0,
     }
 }

@@ -9,10 +9,11 @@ use crate::evaluation::Worth;
 use crate::token::Token;
 
 // A state's bit at a place. A place past the type's width has no bit.
+#[tactic(auto, using(crate::proofs::Letters::shifted), unfolding(sets::specs::Bit::has))]
 fn bit_at(state: usize, place: u8) -> bool
     ensures { result ≡ has state place }
 {
-    place < 64 && (state >> place) % 2 == 1
+    state.unbounded_shr(u32::from(place)) % 2 == 1
 }
 
 // One value at all 64 states.
@@ -33,21 +34,24 @@ fn next_bits(place: u8, block: usize) -> u64
     }
 }
 
-// The state now, and the block of 64 next states.
+// The state now, and the block of 64 next states; two values where they are handed in, since callers go over the blocks of one state.
 #[derive(Clone, Copy)]
 struct NextStates {
     state: usize,
     block: usize,
 }
 
+// `leaf` and `binary` are asked only of tokens with as many operands, so their last arms are proved never to be reached.
 impl Worth for NextStates {
-    ghost use Rattle.exprs.specs.Answers.{leaf_word, combined_word};
+    ghost use Rattle.exprs.specs.Answers.{leaf_word, negation_word, binary_word};
 
     type Value = u64;
 
     ghost leaf_worth = { λ w t. leaf_word w.state w.block t };
 
-    ghost operator_worth = { λ w t x y. combined_word t x y };
+    ghost negation_worth = { λ w x. negation_word x };
+
+    ghost binary_worth = { λ w t x y. binary_word t x y };
 
     #[inline(always)]
     fn leaf(self, t: Token) -> u64 {
@@ -55,19 +59,23 @@ impl Worth for NextStates {
             Token::Constant(v) => same_bits(v),
             Token::Now(i) => same_bits(bit_at(self.state, i)),
             Token::Next(i) => next_bits(i, self.block),
-            _ => 0,
+            _ => unreachable!(),
         }
     }
 
     #[inline(always)]
-    fn operator(self, t: Token, x: u64, y: u64) -> u64 {
+    fn negation(self, x: u64) -> u64 {
+        !x
+    }
+
+    #[inline(always)]
+    fn binary(self, t: Token, x: u64, y: u64) -> u64 {
         match t {
-            Token::Not => !x,
             Token::And => x & y,
             Token::Or => x | y,
             Token::Implies => !x | y,
             Token::Alike => !(x ^ y),
-            _ => 0,
+            _ => unreachable!(),
         }
     }
 }

@@ -9,10 +9,10 @@ use Rattle.sets.specs.Lists.{list_of, cores_of, cuts_of, must_of, common}
 use Rattle.sets.specs.Kinds.{some_of}
 use Rattle.sets.specs.Laws.Growth.{is_core_agree, is_cut_agree, cores_of_agree, list_of_agree}
 use Rattle.sets.proofs.Laws.Kinds.{some_less_must, full_less_some}
-use Rattle.models.specs.declared.model.Model.{Model}
-use Rattle.models.specs.Written.{described}
 use Rattle.systems.specs.declared.systems.Systems.{Systems}
 use Rattle.systems.specs.ByTables.{judge_by}
+use Rattle.semantics.specs.declared.model_text.ModelText.{ModelText}
+use Rattle.semantics.specs.ByText.{described_by}
 use Rattle.semantics.specs.Meaning.{judge}
 use Rattle.semantics.specs.TablesOf.{Filled}
 use Rattle.semantics.proofs.Laws.Filled.{rules_are, same_verdict}
@@ -23,35 +23,35 @@ use Rattle.marks.specs.declared.table.MarkedSets.{MarkedSets}
 use Rattle.marks.specs.Laws.Marks.{table_by_agree, table_by_marks}
 use Rattle.finding.specs.Finding.{Found, TakesFound, AnswersByFound}
 
-module _ {text : List ℕ} {m : Model} {s : Systems} (f : Filled text m s) where
-  pub must_is : {S : ℕ} → S ≡ must_of s.tables.now.rules (judge_by s.masks.now s.tables.now) → S ≡ must_of m.rules (judge (described text m))
+module _ {m : ModelText} {s : Systems} (f : Filled m s) where
+  pub must_is : {S : ℕ} → S ≡ must_of s.tables.now.rules (judge_by s.masks.now s.tables.now) → S ≡ must_of m.model.rules (judge (described_by m))
   unfolding must_of
   must_is e =
       e ∙ ap (λ (R : ℕ). must_of R (judge_by s.masks.now s.tables.now)) (rules_are f)
-      ∙ ap common (cores_of_agree m.rules (judge_by s.masks.now s.tables.now) (judge (described text m)) (same_verdict f))
+      ∙ ap common (cores_of_agree m.model.rules (judge_by s.masks.now s.tables.now) (judge (described_by m)) (same_verdict f))
 
   -- the tables of the cores and of the cuts
-  found_is : {cores cuts : MarkedSets} → Found s.tables.now.rules (judge_by s.masks.now s.tables.now) cores cuts → Found m.rules (judge (described text m)) cores cuts
+  found_is : {cores cuts : MarkedSets} → Found s.tables.now.rules (judge_by s.masks.now s.tables.now) cores cuts → Found m.model.rules (judge (described_by m)) cores cuts
   found_is g = record {
     cores_rules = g.cores_rules ∙ rules_are f;
     cores_are =
         g.cores_are ∙ ap (λ (R : ℕ). table_by R (is_core (judge_by s.masks.now s.tables.now))) (rules_are f)
-        ∙ table_by_agree m.rules _ _ (is_core_agree m.rules (judge_by s.masks.now s.tables.now) (judge (described text m)) (same_verdict f));
+        ∙ table_by_agree m.model.rules _ _ (is_core_agree m.model.rules (judge_by s.masks.now s.tables.now) (judge (described_by m)) (same_verdict f));
     cuts_rules = g.cuts_rules ∙ rules_are f;
     cuts_are =
         g.cuts_are ∙ ap (λ (R : ℕ). table_by R (is_cut R (judge_by s.masks.now s.tables.now))) (rules_are f)
-        ∙ table_by_agree m.rules _ _ (is_cut_agree m.rules (judge_by s.masks.now s.tables.now) (judge (described text m)) (same_verdict f));
+        ∙ table_by_agree m.model.rules _ _ (is_cut_agree m.model.rules (judge_by s.masks.now s.tables.now) (judge (described_by m)) (same_verdict f));
   }
 
   -- so a closure may be called by them, and what it may answer by them is what it may answer of the model
   pub callable_is : {pre : MarkedSets → MarkedSets → MutBor (List ℕ) → Type 0} {lent shown : List ℕ}
-      → TakesFound pre m.rules (judge (described text m)) lent → shown ≡ lent
+      → TakesFound pre m.model.rules (judge (described_by m)) lent → shown ≡ lent
       → TakesFound pre s.tables.now.rules (judge_by s.masks.now s.tables.now) shown
   callable_is a e = record { at = λ cores cuts bytes g same. a.at cores cuts bytes (found_is g) (same ∙ e) }
 
   pub answered_is : {A : Type 0} {post : MarkedSets → MarkedSets → MutBor (List ℕ) → A → MutBor (List ℕ) → Type 0} {lent shown left lent' : List ℕ} {r : A}
       → shown ≡ lent → left ≡ lent' → AnswersByFound post s.tables.now.rules (judge_by s.masks.now s.tables.now) shown r left
-      → AnswersByFound post m.rules (judge (described text m)) lent r lent'
+      → AnswersByFound post m.model.rules (judge (described_by m)) lent r lent'
   answered_is e g a = record {
     cores = a.cores;
     cuts = a.cuts;

@@ -1,15 +1,14 @@
 // All cores and all cuts of a model's rules, in tables that are lent to one closure. The room for the tables lies here, in two sizes: few rules would
 // spend most of their time clearing the large ones.
 ghost use Rattle.std.specs.Prelude.{◌≡◌, ◌^◌, ◌*◌, ◌≤◌};
-ghost use Rattle.models.specs.Written.{described};
-ghost use Rattle.systems.specs.ByTables.{judge_by};
+ghost use Rattle.systems.specs.BySystems.{judge_among};
+ghost use Rattle.semantics.specs.ByText.{described_by};
 ghost use Rattle.semantics.specs.Meaning.{judge};
-ghost use Rattle.semantics.specs.TablesOf.{Few};
 ghost use Rattle.finding.specs.Finding.{TakesFound, AnswersByFound};
 
 use marks::table::MarkedSets;
-use models::model::Model;
 use semantics::filled::with_systems_over;
+use semantics::model_text::ModelText;
 use systems::systems::Systems;
 
 // What the closure makes of the cores, the cuts and the lent bytes, by tables of so many words. The words that are gone over are no more than the marks take.
@@ -20,8 +19,8 @@ fn found_in<const WORDS: usize, R, F: FnOnce(MarkedSets, MarkedSets, &mut [u8]) 
 ) -> R
     requires few { systems.tables.now.rules ≤ 16 }
     requires room { (2 ^ systems.tables.now.rules ≤ 64 * WORDS) × (WORDS ≤ 1024) }
-    requires callable { TakesFound (F.pre run) systems.tables.now.rules (judge_by systems.masks.now systems.tables.now) lent.old }
-    ensures { let s = systems.entry in AnswersByFound (F.post run) s.tables.now.rules (judge_by s.masks.now s.tables.now) lent.old result lent.new }
+    requires callable { TakesFound (F.pre run) systems.tables.now.rules (judge_among systems) lent.old }
+    ensures { let s = systems.entry in AnswersByFound (F.post run) s.tables.now.rules (judge_among s) lent.old result lent.new }
 {
     let rules = systems.tables.rules;
     let words = marks::table::word_count(rules);
@@ -52,8 +51,8 @@ fn found<R, F: FnOnce(MarkedSets, MarkedSets, &mut [u8]) -> R>(
     run: F,
 ) -> R
     requires few { systems.tables.now.rules ≤ 16 }
-    requires callable { TakesFound (F.pre run) systems.tables.now.rules (judge_by systems.masks.now systems.tables.now) lent.old }
-    ensures { let s = systems.entry in AnswersByFound (F.post run) s.tables.now.rules (judge_by s.masks.now s.tables.now) lent.old result lent.new }
+    requires callable { TakesFound (F.pre run) systems.tables.now.rules (judge_among systems) lent.old }
+    ensures { let s = systems.entry in AnswersByFound (F.post run) s.tables.now.rules (judge_among s) lent.old result lent.new }
 {
     if systems.tables.rules <= 8 {
         found_in::<4, _, _>(systems, lent, run)
@@ -64,23 +63,20 @@ fn found<R, F: FnOnce(MarkedSets, MarkedSets, &mut [u8]) -> R>(
 
 // What the closure makes of a model's cores and cuts and of the lent bytes.
 pub(crate) fn with_found<R, F: FnOnce(MarkedSets, MarkedSets, &mut [u8]) -> R>(
-    text: &[u8],
-    m: Model,
+    m: ModelText,
     lent: &mut [u8],
     run: F,
 ) -> R
-    requires few { Few m }
-    requires callable { TakesFound (F.pre run) m.rules (judge (described text.now m)) lent.old }
-    ensures { AnswersByFound (F.post run) m.rules (judge (described text.now m)) lent.old result lent.new }
+    requires callable { TakesFound (F.pre run) m.model.rules (judge (described_by m)) lent.old }
+    ensures { AnswersByFound (F.post run) m.entry.model.rules (judge (described_by m.entry)) lent.old result lent.new }
 {
     with_systems_over(
-        text,
         m,
         lent,
         |systems: Systems, lent: &mut [u8]| -> R
             requires few { systems.tables.now.rules ≤ 16 }
-            requires callable { TakesFound (F.pre run) systems.tables.now.rules (judge_by systems.masks.now systems.tables.now) lent.now }
-            ensures { let s = systems.entry in AnswersByFound (F.post run) s.tables.now.rules (judge_by s.masks.now s.tables.now) lent.entry.now result lent.exit.now }
+            requires callable { TakesFound (F.pre run) systems.tables.now.rules (judge_among systems) lent.now }
+            ensures { let s = systems.entry in AnswersByFound (F.post run) s.tables.now.rules (judge_among s) lent.entry.now result lent.exit.now }
         { found(systems, lent, run) },
     )
 }

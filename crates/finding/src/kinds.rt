@@ -1,23 +1,16 @@
 // The kinds of a model's rules: MUST, MAY and irrelevant. The sets are judged once for all three.
 ghost use Rattle.std.specs.Prelude.{◌≡◌};
-ghost use Rattle.models.specs.Written.{described};
+ghost use Rattle.semantics.specs.ByText.{described_by};
 ghost use Rattle.semantics.specs.Meaning.{judge};
-ghost use Rattle.semantics.specs.TablesOf.{Few};
 ghost use Rattle.sorting.specs.Kinds.{kinds_of};
 
 use crate::find::with_found;
-use models::model::Model;
+use semantics::model_text::ModelText;
 use sorting::kinds::Kinds;
 
 // The kinds of a model's rules; if there is no core, every rule is irrelevant.
-pub fn kinds(text: &[u8], m: Model) -> Kinds
-    requires { Few m }
-    ensures { result ≡ kinds_of m.rules (judge (described text.now m)) }
+pub fn kinds(m: ModelText) -> Kinds
+    ensures { result ≡ kinds_of m.entry.model.rules (judge (described_by m.entry)) }
 {
-    with_found(
-        text,
-        m,
-        &mut [],
-        |cores, _, _| sorting::kinds::kinds_of(cores),
-    )
+    with_found(m, &mut [], |cores, _, _| sorting::kinds::kinds_of(cores))
 }

@@ -1,16 +1,15 @@
 // The list of the cores or of the cuts: all of both are found first, then the list is counted, and only then written.
 ghost use Rattle.std.specs.Prelude.{◌≡◌};
 ghost use Rattle.sets.specs.Lists.{list_of};
-ghost use Rattle.models.specs.Written.{described};
+ghost use Rattle.semantics.specs.ByText.{described_by};
 ghost use Rattle.semantics.specs.Meaning.{judge};
 ghost use Rattle.marks.specs.Marks.{marked};
 ghost use Rattle.sorting.specs.Which.{listed};
-ghost use Rattle.semantics.specs.TablesOf.{Few};
 ghost use Rattle.finding.specs.Lists.{listed_answer, listed_bytes};
 
 use crate::find::with_found;
 use marks::table::MarkedSets;
-use models::model::Model;
+use semantics::model_text::ModelText;
 use sorting::which::WhichList;
 
 // The list of the marked sets, and how many these are; where the lent bytes are too few for it, nothing is written.
@@ -28,12 +27,11 @@ fn write(sets: MarkedSets, lent: &mut [u8]) -> Option<usize>
 }
 
 // The list that is meant, over the front of the lent bytes, and how many sets it has; none where the bytes are too few for it, which then stay as they are.
-pub fn list(text: &[u8], m: Model, which: WhichList, lent: &mut [u8]) -> Option<usize>
-    requires { Few m }
-    ensures value { result ≡ listed_answer (listed which m.rules (judge (described text.now m))) lent.old }
-    ensures lent_after { lent.new ≡ listed_bytes (listed which m.rules (judge (described text.now m))) lent.old }
+pub fn list(m: ModelText, which: WhichList, lent: &mut [u8]) -> Option<usize>
+    ensures value { result ≡ listed_answer (listed which m.entry.model.rules (judge (described_by m.entry))) lent.old }
+    ensures lent_after { lent.new ≡ listed_bytes (listed which m.entry.model.rules (judge (described_by m.entry))) lent.old }
 {
-    with_found(text, m, lent, |cores, cuts, lent| {
+    with_found(m, lent, |cores, cuts, lent| {
         let sets = match which {
             WhichList::Cores => cores,
             WhichList::Cuts => cuts,

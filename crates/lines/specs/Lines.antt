@@ -1,6 +1,6 @@
 -- The lines of a model text but for the rule lines, each read by itself: the first of the numbers 1, 2 and 5 to 8 that fits, in the document's order
 -- within a line, or what the line says and how many bytes it has. From document 01, "The model text" and "When a call is turned away". Assumes nothing.
-use Rattle.std.specs.Prelude.{ℕ, zero, suc, ◌+◌, ◌-◌, Bool, false, cond, ◌&&◌, List, eqb, leb, ltb, length, take, drop, Option, Some, None, Result, Ok, Err}
+use Rattle.std.specs.Prelude.{ℕ, zero, suc, ◌+◌, ◌-◌, ◌≡◌, Bool, true, false, cond, ◌&&◌, List, eqb, leb, ltb, length, take, drop, Option, Some, None, Result, Ok, Err}
 use Rattle.std.proofs.Math.Option.{Option as Maybe, none, some}
 use Rattle.exprs.specs.Expr.{Expr, size}
 use Rattle.exprs.specs.Reading.{read_expr}
@@ -73,6 +73,17 @@ value_of key s = take (line_length s - length key) (drop (length key) s)
 unfoldable pub says : {A : Type 0} → A → List ℕ → Line A
 unfolding line_length
 says v s = Read v (line_length s + 1)
+
+-- how what a value reads as is said of its line
+unfoldable pub said_of : {A : Type 0} → Result A Reason → List ℕ → Line A
+unfolding says
+said_of (Ok v) s = says v s
+said_of (Err reason) s = Fault (number_of reason)
+
+-- The reading of a line with the key, where `reads` tells what a value may read as: a line that is missing is refused by 1, and of any other its value is read.
+pub data ByValue {A : Type 0} (reads : List ℕ → Result A Reason → Type 0) (key s : List ℕ) : Line A → Type 0 where
+  missing : is_line key s ≡ false → ByValue reads key s (Fault 1)
+  by_value : {r : Result A Reason} → is_line key s ≡ true → reads (value_of key s) r → ByValue reads key s (said_of r s)
 
 -- what is read, unless a number refuses it
 unfoldable pub unless_fault : {A : Type 0} → (ℕ → A) → ℕ → A → A

@@ -5,7 +5,7 @@ ghost use Rattle.lines.specs.Lines.{count_in, count_or_none, count_line, line_of
 use crate::line::Said;
 use refusals::refusal::Reason;
 
-// The count of one or two digits that v writes in decimal, with no leading zero.
+// The count of one or two digits that v writes in decimal, with no leading zero. Not by `parse`, which takes a sign and leading zeros.
 #[tactic(auto, using(crate::proofs::Counting::by_digits))]
 fn number_in(v: &[u8]) -> Option<usize>
     ensures { result ≡ count_or_none (count_in 99 v.now) }
@@ -29,15 +29,9 @@ fn count_in(most: usize, v: &[u8]) -> Option<usize>
 }
 
 // The line with this key and a count of 1 to `most`.
-#[tactic(auto, using(crate::proofs::Laws::Ended::counts_by_end))]
 pub fn count_line(key: &[u8], most: usize, s: &[u8]) -> Result<Said<usize>, Reason>
     requires { most < 100 }
     ensures { line_of result ≡ count_line key.now most s.now }
 {
-    let end = crate::line::end_of(key, s).ok_or(Reason::LineMissing)?;
-    let value = count_in(most, slices::parts::part(s, key.len(), end)).ok_or(Reason::CountWrong)?;
-    Ok(Said {
-        value,
-        bytes: end + 1,
-    })
+    crate::line::keyed_line(key, s, |v| count_in(most, v).ok_or(Reason::CountWrong))
 }

@@ -21,7 +21,8 @@ fn all_in(c: Class, e: &[u8]) -> bool
     crate::classes::prefix_of(c, e) == e.len()
 }
 
-// Whether the expression e may stand in a model of `vars` letters, and if not, why. A legal one is gone over once.
+// Whether the expression e may stand in a model of `vars` letters, and if not, why. A legal one is gone over once. Whether capitals may stand is a flag, as the
+// definition has it (`fault_of`).
 #[tactic(auto, using(crate::proofs::Laws::Numbers::by_tests))]
 pub fn fault_in(vars: usize, capitals: bool, e: &[u8]) -> Result<(), Reason>
     ensures { fault_number_of result ≡ fault_of vars capitals e.now }
@@ -43,15 +44,8 @@ pub fn fault_in(vars: usize, capitals: bool, e: &[u8]) -> Result<(), Reason>
 }
 
 // The line with this key and an expression over the bits now, in a model of `vars` letters.
-#[tactic(auto, using(crate::proofs::Laws::Ended::states_by_end))]
 pub fn state_line(key: &[u8], vars: usize, s: &[u8]) -> Result<Said<usize>, Reason>
     ensures { line_of result ≡ state_line key.now vars s.now }
 {
-    let end = crate::line::end_of(key, s).ok_or(Reason::LineMissing)?;
-    let value = key.len();
-    fault_in(vars, false, slices::parts::part(s, value, end))?;
-    Ok(Said {
-        value,
-        bytes: end + 1,
-    })
+    crate::line::keyed_line(key, s, |v| fault_in(vars, false, v).map(|()| key.len()))
 }

@@ -1,8 +1,10 @@
 // What a line says; and of any line its key and its end.
 ghost use Rattle.std.specs.Prelude.{◌≡◌};
-ghost use Rattle.lines.specs.Lines.{starts_with, line_length, end_of};
+ghost use Rattle.std.specs.Fn.{FnOnceReturnsAt};
+ghost use Rattle.lines.specs.Lines.{starts_with, line_length, end_of, line_of, ByValue};
 
 use crate::classes::Class;
+use refusals::refusal::Reason;
 
 // What a line says, and how many bytes it has with its byte 10. A count line says the count, and a line with an expression the place within the line where
 // the expression begins.
@@ -20,7 +22,7 @@ pub fn line_length(s: &[u8]) -> usize
     crate::classes::prefix_of(Class::InLine, s)
 }
 
-// Whether s starts with the key.
+// Whether s starts with the key. Of its own, since `starts_with` is the word of the definitions above.
 #[tactic(auto, using(crate::proofs::Keys::starts_with_is))]
 pub fn starts_with(key: &[u8], s: &[u8]) -> bool
     ensures { result ≡ starts_with key.now s.now }
@@ -37,5 +39,23 @@ pub fn end_of(key: &[u8], s: &[u8]) -> Option<usize>
         return None;
     }
     let end = line_length(s);
-    if end < s.len() { Some(end) } else { None }
+    (end < s.len()).then_some(end)
+}
+
+// The line that starts with the key, by what `read` makes of its value, which stands between the key and the byte 10.
+#[tactic(auto, using(crate::proofs::Laws::Ended::end_below))]
+pub(crate) fn keyed_line<T, F: FnOnce(&[u8]) -> Result<T, Reason>>(
+    key: &[u8],
+    s: &[u8],
+    read: F,
+) -> Result<Said<T>, Reason>
+    requires { F.IsAlwaysCallable read }
+    ensures { ByValue (FnOnceReturnsAt F.FnOnce read) key.now s.now (line_of result) }
+{
+    let end = end_of(key, s).ok_or(Reason::LineMissing)?;
+    let value = read(slices::parts::part(s, key.len(), end))?;
+    Ok(Said {
+        value,
+        bytes: end + 1,
+    })
 }

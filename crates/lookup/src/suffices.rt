@@ -26,12 +26,13 @@ pub fn suffices(set: u32, cores: &[u8], cuts: &[u8]) -> Result<Suffices, Refusal
     ensures { answer_of result ≡ suffices_answer set cores.now cuts.now }
 {
     if cores.len() % 2 == 1 || cuts.len() % 2 == 1 {
-        return Err(Reason::ListOdd.at(0));
+        return Err(Reason::ListOdd.into());
     }
     Ok(look_up(set, cores, cuts))
 }
 
-// The witness: the two bytes of the list that holds it, a part of that list and no copy; no bytes where the set is unlisted or the call refused.
+// The witness: the two bytes of the list that holds it, a part of that list and no copy; no bytes where the set is unlisted or the call refused. No Option of
+// it: the part with no bytes has an address, too, which is promised.
 pub fn witness<'a>(set: u32, cores: &'a [u8], cuts: &'a [u8]) -> &'a [u8]
     ensures result_value { result.now ≡ witness_of set cores.now cuts.now }
     ensures ref_ptr_value { result.ref_ptr ≡ address_said (suffices_answer set cores.now cuts.now) cores.entry.ref_ptr cuts.entry.ref_ptr }

@@ -1,10 +1,12 @@
 -- The marks from a set on as the bits of what is left of one word: it is 0 or has its first one at the next marked set.
 -- From the bits of words. Assumes nothing.
 use Prim.Native.Nat.{ℕ, ◌+◌, ◌-◌, ◌*◌, ◌/◌, ◌%◌, ◌^◌, ◌≤◌, ◌<◌}
-use mathlib.Core.Path.{◌≡◌, sym, ap, ◌∙◌}
+use mathlib.Core.Path.{◌≡◌, refl, sym, ap, ◌∙◌}
 use mathlib.Core.Logic.{◌≢◌}
 use mathlib.Core.Bool.{Bool, true, false}
-use Rattle.std.specs.Prelude.{Some, None, length}
+use Rattle.std.specs.Prelude.{Some, None, length, ltb}
+use Rattle.std.specs.Bool.{then_some}
+use borrow.Author.Tests.{ltb-true, ltb-false}
 use Rattle.std.specs.List.{AllWithin, HoldsAt, between}
 use Rattle.std.proofs.lemmas.List.Edits.{get_or-between, length-between}
 use mathlib.Core.List.{List}
@@ -127,13 +129,15 @@ module _ (table : List ℕ) (word words : ℕ) (l : words ≤ length table) wher
 
 -- what is said of the next number below a nearer end, if there is one
 module _ {p : ℕ → Bool} {from end top : ℕ} (l : end ≤ top) (s : from < end) where
-  pub found_below : {r : ℕ} → NextFrom p from top r → r < end → Some r ≡ next_if_any p from end
-  found_below f h =
-      sym
-      (is_some_next p (f.after (omega arith)) h (record { within = omega arith; after = λ a. f.after (omega arith); passes = λ _. f.passes (omega arith); passed = f.passed }))
-
-  pub none_below : {r : ℕ} → NextFrom p from top r → end ≤ r → None ≡ next_if_any p from end
-  none_below f h = sym (is_none_next p (λ k a b. f.passed k a (omega arith)))
+  pub found_if : {r : ℕ} → NextFrom p from top r → then_some (ltb r end) r ≡ next_if_any p from end
+  found_if {r} f = at (ltb r end) refl
+    where
+      at : (b : Bool) → ltb r end ≡ b → then_some b r ≡ next_if_any p from end
+      at true h =
+          let below : r < end = ltb-true r end h in
+          sym
+          (is_some_next p (f.after (omega arith)) below (record { within = omega arith; after = λ a. f.after (omega arith); passes = λ _. f.passes (omega arith); passed = f.passed }))
+      at false h = let past : end ≤ r = ltb-false r end h in sym (is_none_next p (λ k a b. f.passed k a (omega arith)))
 
   pub none_found : {s : ℕ} → Passed p from s → next_if_any p s top ≡ None → None ≡ next_if_any p from end
   none_found {s} q e = sym (is_none_next p (λ k a b. at k a b (dec_lt k s)))

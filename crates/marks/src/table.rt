@@ -1,4 +1,6 @@
-// Tables of sets: bit S % 64 of word S / 64 is the mark of set S, so that 64 sets are marked, cleared or passed over at once.
+// Tables of sets: bit S % 64 of word S / 64 is the mark of set S, so that 64 sets are marked, cleared or passed over at once. What changes a table, or asks it
+// while it is changed, takes the lent slice and no struct of it: behind a `&mut` of one the slice could be exchanged for another, so each promise would have to
+// speak of lengths as well.
 ghost use Rattle.std.specs.Prelude.{◌≡◌, ◌&&◌, ◌||◌, not, ◌+◌, ◌*◌, ◌/◌, ◌^◌, ◌≤◌, ◌<◌, eqb, ltb, length};
 ghost use Rattle.std.specs.Iterator.{YieldsFirst, item_count};
 ghost use Rattle.sets.specs.Gathered.{set_of};
@@ -121,7 +123,7 @@ pub fn first_marked(table: &[u64], from: usize, end: usize) -> Option<usize>
     } else {
         first_in_words(table, from / 64 + 1, (end + 63) / 64)?
     };
-    if set < end { Some(set) } else { None }
+    (set < end).then_some(set)
 }
 
 impl<'a> MarkedSets<'a> {
@@ -138,6 +140,7 @@ impl<'a> MarkedSets<'a> {
     }
 }
 
+// It gives numbers and no RuleSet: the definitions of lists are of numbers.
 impl<'a> Iterator for ByNumber<'a> {
     type Item = u16;
 

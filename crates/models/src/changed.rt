@@ -4,7 +4,7 @@ ghost use Rattle.models.specs.Places.{places_by_property};
 
 use crate::model::Model;
 
-// The places of the model with property j alone.
+// The places of the model with property j alone, which need not be one that it has: so the array is asked and not `properties`.
 #[tactic(auto, unfolding(crate::specs::Places::places_by_property))]
 pub fn by_property(m: Model, j: usize) -> Model
     requires { j < 4 }

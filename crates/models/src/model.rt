@@ -1,7 +1,7 @@
 // The reading of a whole model text.
-ghost use Rattle.std.specs.Prelude.{◌≡◌};
-ghost use Rattle.refusals.specs.Answers.{Given, answer_of};
-ghost use Rattle.models.specs.Reading.{finished, behind_init, read_model};
+ghost use Rattle.std.specs.Prelude.{◌≡◌, cond, ltb, length, take};
+ghost use Rattle.refusals.specs.Answers.{RefusedBy, Given, answer_of};
+ghost use Rattle.models.specs.Reading.{behind_init, read_model};
 ghost use Rattle.bodies.specs.Places.{PartsDue};
 
 use bodies::progress::{LineStart, Progress};
@@ -10,7 +10,8 @@ use rule_lines::names::RuleParts;
 
 // A model, by where its parts stand in the text: N, R and how many properties there are, the expression of `init`, that of each property, and the
 // parts of each rule. Places of properties and rules that the model lacks are 0, and such rules have no start part.
-// The arrays have the greatest size, and how many of their entries count stands beside them: there is no heap.
+// The arrays have the greatest size, and how many of their entries count stands beside them: there is no heap, and an `ArrayVec` is not `Copy`, as a model is
+// that is handed on by value.
 #[derive(Clone, Copy)]
 pub struct Model {
     pub vars: usize,
@@ -21,37 +22,34 @@ pub struct Model {
     pub parts: [RuleParts; 16],
 }
 
-// After the last rule line no byte may follow.
-#[tactic(auto, unfolding(crate::specs::Reading::finished))]
-fn finish(
-    text: &[u8],
-    vars: usize,
-    rules: usize,
-    init: usize,
-    properties: usize,
-    r: &Progress,
-) -> Result<Model, Refusal>
-    ensures { answer_of result ≡ finished text.now vars rules init properties (Given r.now) }
+impl Model {
+    // The places of the properties.
+    pub fn properties(&self) -> &[usize]
+        ensures { result.now ≡ take self.now.properties self.now.props }
+    {
+        &self.props[..self.properties.min(self.props.len())]
+    }
+
+    // The parts of the rules.
+    pub fn rules(&self) -> &[RuleParts]
+        ensures { result.now ≡ take self.now.rules self.now.parts }
+    {
+        &self.parts[..self.rules.min(self.parts.len())]
+    }
+}
+
+// After the last rule line, behind which the place is, no byte may follow.
+fn nothing_follows(text: &[u8], place: LineStart) -> Result<(), Refusal>
+    ensures { answer_of result ≡ cond (ltb place.at (length text.now)) (RefusedBy 9 place.line) (Given tt) }
 {
-    let place = r.place;
     if place.at < text.len() {
         return Err(Reason::BytesFollow.at(place.line));
     }
-    // variables, since the check covers no literal with an array that is a field of another struct
-    let props = r.props;
-    let parts = r.parts;
-    Ok(Model {
-        vars,
-        rules,
-        init,
-        properties,
-        props,
-        parts,
-    })
+    Ok(())
 }
 
 // What follows the line of `init`, from a place on.
-#[tactic(auto, using(crate::proofs::Laws::Steps::steps_of_body), unfolding(crate::specs::Reading::behind_init, crate::specs::Reading::body_read))]
+#[tactic(auto, using(crate::proofs::Laws::Steps::steps_of_body), unfolding(crate::specs::Reading::behind_init, crate::specs::Reading::body_read, crate::specs::Reading::finished))]
 fn read_body(
     text: &[u8],
     vars: usize,
@@ -66,7 +64,20 @@ fn read_body(
     let mut r = bodies::progress::none_read(place);
     bodies::properties::property_lines(text, vars, properties, &mut r)?;
     bodies::rules::rule_lines(text, vars, rules, &mut r)?;
-    finish(text, vars, rules, init, properties, &r)
+    let Progress {
+        place,
+        props,
+        parts,
+    } = r;
+    nothing_follows(text, place)?;
+    Ok(Model {
+        vars,
+        rules,
+        init,
+        properties,
+        props,
+        parts,
+    })
 }
 
 // The lines in order, up to the first that is refused. What the body needs room for is in its own function, so that a refusal before it clears none.

@@ -2,7 +2,7 @@
 ghost use Rattle.std.specs.Prelude.{ℕ, ◌+◌, ◌≤◌, ◌<◌, ◌≡◌, length, get_or};
 ghost use Rattle.sets.specs.OneCore.{after_set, after_order, one_core_of};
 ghost use Rattle.sets.specs.Orders.{IsOrder};
-ghost use Rattle.systems.specs.ByTables.{judge_by};
+ghost use Rattle.systems.specs.BySystems.{judge_among};
 
 use sets::one_core::OneCore;
 use sets::ruleset::RuleSet;
@@ -13,20 +13,20 @@ use verdicts::verdict::is_held;
 #[tactic(auto, unfolding(sets::specs::OneCore::after_set, sets::specs::OneCore::after_verdict))]
 fn judged(systems: Systems, found: OneCore, set: RuleSet) -> OneCore
     requires { found.judgements ≤ 16 }
-    ensures { result ≡ after_set (judge_by systems.entry.masks.now systems.entry.tables.now) found set.0 }
+    ensures { result ≡ after_set (judge_among systems.entry) found set.0 }
 {
-    let holds = is_held(systems, set.0);
+    let holds = is_held(systems, set);
     OneCore {
-        core: if holds { Some(set.0) } else { found.core },
+        core: holds.then_some(set.0).or(found.core),
         judgements: found.judgements + 1,
     }
 }
 
-// Each rule in the order is dropped from the set that was found when the rest still holds.
+// Each rule in the order is dropped from the set that was found, which `OneCore` holds as a number, when the rest still holds.
 fn drop_all(systems: Systems, order: &[u8], first: OneCore) -> OneCore
     requires below { (k : ℕ) → k < length order.now → get_or order.now k 0 < 16 }
     requires few { first.judgements + length order.now ≤ 17 }
-    ensures { result ≡ after_order (judge_by systems.entry.masks.now systems.entry.tables.now) first order.now }
+    ensures { result ≡ after_order (judge_among systems.entry) first order.now }
 {
     let mut found = first;
     for rule in order {
@@ -41,7 +41,7 @@ fn drop_all(systems: Systems, order: &[u8], first: OneCore) -> OneCore
 pub fn one_core(systems: Systems, order: &[u8]) -> OneCore
     requires few { systems.tables.now.rules ≤ 16 }
     requires ordered { IsOrder systems.tables.now.rules order.now }
-    ensures { result ≡ one_core_of systems.entry.tables.now.rules (judge_by systems.entry.masks.now systems.entry.tables.now) order.now }
+    ensures { result ≡ one_core_of systems.entry.tables.now.rules (judge_among systems.entry) order.now }
 {
     let all = RuleSet::full(systems.tables.rules);
     let unjudged = OneCore {

@@ -36,7 +36,7 @@ pub fn pack<A: Answered>(answer: Result<A, Refusal>) -> u64
 }
 
 // A log can be as long as memory, so a place has no room beside the set: a C host gets it by a call of its own. Where there is no breach it is the number
-// of states that the log has.
+// of states that the log has, and of a refused call the greatest number, since the C interface has no Option.
 #[tactic(auto, unfolding(crate::specs::Packing::breach_number))]
 pub fn breach_of(answer: Result<Blamed, Refusal>, states: usize) -> u64
     ensures { result ≡ breach_number states (answer_of answer) }
@@ -47,7 +47,8 @@ pub fn breach_of(answer: Result<Blamed, Refusal>, states: usize) -> u64
     }
 }
 
-// An exported function cannot return a reference: a C host gets the place of the witness and not the part.
+// An exported function cannot return a reference: a C host gets the place of the witness and not the part. The C interface has no Option: the greatest
+// number stands for no place.
 #[tactic(auto, unfolding(crate::specs::Packing::witness_place))]
 pub fn place_of(answer: Result<Suffices, Refusal>) -> u64
     ensures { result ≡ witness_place (answer_of answer) }

@@ -11,7 +11,8 @@ use refusals::refusal::Refusal;
 use sets::one_core::OneCore;
 
 // `amount` is the trace's length, the pairs tried, the number of sets, the set, or what two lists say; `holds` is the verdict, that a listed core is
-// inside, and that no state of a log breaks a property; `judgements` is how many were made to find one core, and 0 of every other call.
+// inside, and that no state of a log breaks a property; `judgements` is how many were made to find one core, and 0 of every other call. The C interface
+// fixes these parts: 0 for no refusal in place of an Option, and a flag beside an amount in place of an enum for each call.
 #[derive(Clone, Copy, Debug, PartialEq, Eq)]
 pub struct Parts {
     pub number: u8,
@@ -22,7 +23,7 @@ pub struct Parts {
 }
 
 impl Parts {
-    // Those of an accepted call that judges nothing.
+    // Those of an accepted call that tells no judgements.
     #[tactic(auto, unfolding(crate::specs::Packing::accepted))]
     fn accepted(amount: usize, holds: bool) -> Parts
         ensures { result ≡ accepted amount holds }
@@ -59,7 +60,7 @@ impl Parts {
     }
 }
 
-// What an accepted call answers has parts.
+// What an accepted call answers has parts. No From: a number has parts only as the answer of a call.
 pub trait Answered {
     ghost parts_of: { Self → Parts };
 
@@ -89,17 +90,17 @@ impl Answered for usize {
     }
 }
 
-// A set of rules.
+// A set of rules: by its number.
 #[tactic(auto, unfolding(crate::specs::Packing::number_parts))]
 impl Answered for u16 {
     ghost parts_of = { number_parts };
 
     fn parts(self) -> Parts {
-        Parts::accepted(self as usize, false)
+        usize::from(self).parts()
     }
 }
 
-// Set 0 stands for no core.
+// Set 0 stands for no core, since the C interface has no Option.
 #[tactic(auto, unfolding(crate::specs::Packing::found_parts, crate::specs::Packing::core_parts))]
 impl Answered for OneCore {
     ghost parts_of = { found_parts };

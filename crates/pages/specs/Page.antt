@@ -1,6 +1,7 @@
 -- A page: lent bytes that take a part of a longer text, which is put byte by byte. The bytes before the part are passed over, and those past
 -- the page's end are left out. Assumes nothing: these are definitions.
-use Rattle.std.specs.Prelude.{ℕ, zero, suc, ◌+◌, ◌-◌, Bool, true, false, cond, List, [], ◌∷◌, ◌++◌, ltb, length, take, drop, set}
+use Rattle.std.specs.Prelude.{ℕ, zero, suc, ◌+◌, ◌-◌, Bool, true, false, cond, Some, None, List, [], ◌∷◌, ◌++◌, ltb, length, take, drop, set}
+use Rattle.std.specs.Option.{option_map_or}
 use Rattle.std.specs.Borrow.{GName}
 use Rattle.pages.specs.declared.page.Page as code
 use Rattle.pages.specs.declared.page.Printed.{Printed}
@@ -14,7 +15,7 @@ pub record Page : Type 0 where
   pub bytes : List ℕ
   pub loan : GName
 
--- The page that the code holds: a place and the lent bytes.
+-- The page that a struct of the code tells: its bytes are those that are lent to it now.
 abbrev pub page_of : code.Page → Page
 page_of p = record { skip = p.skip; at = p.at; more = p.more; bytes = p.bytes.now; loan = p.bytes.ghost_name }
 
@@ -41,13 +42,13 @@ window from most l = take most (drop from l)
 
 -- ---- a text page by page
 
--- What is said of a page that begins after `from` bytes: how many bytes it has, where the next one begins, and whether one follows, which is so
+-- What is said of a page that begins after `from` bytes: how many bytes it has, and where the next one begins, if one follows, which is so
 -- exactly when the text is longer than what has been given with this page.
 unfoldable pub printed_of : ℕ → ℕ → List ℕ → Printed
 unfolding window
 printed_of from most l =
     let bytes = length (window from most l) in
-    record { bytes = bytes; next = from + bytes; more = ltb (from + bytes) (length l) }
+    record { bytes = bytes; next = cond (ltb (from + bytes) (length l)) (Some (from + bytes)) None }
 
 -- The pages one after the other: the one that begins after `from` bytes, and as long as one follows, the next from where it is said to begin;
 -- `count` pages at most.
@@ -55,5 +56,4 @@ unfoldable pub pages_from : ℕ → ℕ → ℕ → List ℕ → List ℕ
 unfolding window printed_of
 pages_from zero from most l = []
 pages_from (suc count) from most l =
-    let page = printed_of from most l in
-    window from most l ++ cond page.more (pages_from count page.next most l) []
+    window from most l ++ option_map_or (λ next. pages_from count next most l) (printed_of from most l).next []

@@ -5,14 +5,14 @@ ghost use Rattle.pages.specs.Page.{page_of, put};
 ghost use Rattle.pages.specs.Numbers.{number_line};
 
 use crate::page::Page;
+use itoa::Buffer;
 
 impl Page<'_> {
     fn put_decimal(&mut self, n: usize)
         ensures { page_of self.new ≡ put (decimal n) (page_of self.old) }
     {
-        let mut digits = [0u8; 20];
-        let k = io::decimal(n as u64, &mut digits);
-        self.put(&digits[..k]);
+        let mut digits = Buffer::new();
+        self.put(digits.format(n).as_bytes());
     }
 
     // A line: the key with `=`, the number and byte 10.

@@ -3,7 +3,8 @@ ghost use Rattle.std.specs.Prelude.{◌≡◌};
 ghost use Rattle.pages.specs.Page.{page_of, empty_page, put_byte, put};
 
 // The lent bytes, and where the next byte goes: so many are still to be passed over, and then the next is stored at place `at`. `more` notes that
-// a byte was left out because the page was full.
+// a byte was left out because the page was full; it makes no Option with `at`, which is told of every page, full or not. The bytes are the caller's,
+// of any length, so that no heap is needed: a Vec would need one, and an ArrayVec a length that is fixed.
 #[derive(Drop)]
 pub struct Page<'a> {
     bytes: &'a mut [u8],
@@ -12,12 +13,11 @@ pub struct Page<'a> {
     more: bool,
 }
 
-// What is said of a page: it has so many bytes, the next one begins after so many of the report, and whether there is a next one.
+// What is said of a page: it has so many bytes, and the next one, if there is one, begins after so many of the report.
 #[derive(Clone, Copy)]
 pub struct Printed {
     pub bytes: usize,
-    pub next: usize,
-    pub more: bool,
+    pub next: Option<usize>,
 }
 
 impl<'a> Page<'a> {
@@ -33,12 +33,18 @@ impl<'a> Page<'a> {
         }
     }
 
-    // How many bytes are stored, and whether one was left out because the page was full.
-    pub fn stored(&self) -> (usize, bool)
-        ensures bytes { result.0 ≡ (page_of self.now).at }
-        ensures left_out { result.1 ≡ (page_of self.now).more }
+    // How many bytes are stored.
+    pub fn stored(&self) -> usize
+        ensures { result ≡ (page_of self.now).at }
     {
-        (self.at, self.more)
+        self.at
+    }
+
+    // Whether the text goes on behind the page: a byte was left out because the page was full.
+    pub fn goes_on(&self) -> bool
+        ensures { result ≡ (page_of self.now).more }
+    {
+        self.more
     }
 
     // Puts one byte, which is stored if it is not to be passed over and the page has room.

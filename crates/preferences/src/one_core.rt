@@ -8,12 +8,13 @@ use sets::one_core::OneCore;
 
 // Finds one core of a model text by an order of its rules, and says how many judgements were made; where the full set is broken there is no core, after
 // the one judgement that tells so. How many bytes an order has is told by the model, so the order is looked at when the text has been read.
+#[tactic(auto, using(crate::proofs::Laws::Answer::one_core_by_text))]
 pub fn one_core(text: &[u8], order: &[u8]) -> Result<OneCore, Refusal>
     ensures { answer_of result ≡ one_core_answer text.now order.now }
 {
-    let m = models::model::read_model(text)?;
-    if !orders::order::is_order(order, m.rules) {
-        return Err(Reason::NoOrder.at(0));
+    let m = calls::reading::read_text(text)?;
+    if !orders::order::is_order(order, m.model.rules) {
+        return Err(Reason::NoOrder.into());
     }
-    Ok(analysis::one_core::one_core(text, m, order))
+    Ok(analysis::one_core::one_core(m, order))
 }

@@ -22,7 +22,7 @@ pub enum Reason {
     InitUnmet = 15,
 }
 
-// The line is 0 where the reason concerns no line of the text.
+// The line is 0 where the reason concerns no line of the text, and no Option: 0 is what a host is then told, and no line has that number.
 #[derive(Clone, Copy, Debug, PartialEq, Eq)]
 pub struct Refusal {
     pub reason: Reason,
@@ -30,7 +30,7 @@ pub struct Refusal {
 }
 
 impl Reason {
-    // The number by which a host knows the reason.
+    // The number by which a host knows the reason. A method and no From: a number stands for a reason only where somebody is told of it, by name.
     pub fn number(self) -> u8
         ensures { result ≡ number_of self }
     {
@@ -42,5 +42,14 @@ impl Reason {
         ensures { result ≡ record { reason = self; line = line } }
     {
         Refusal { reason: self, line }
+    }
+}
+
+// A refusal that concerns no line of the text.
+impl From<Reason> for Refusal {
+    ghost from_gives = { λ reason r. r ≡ record { reason = reason; line = 0 } };
+
+    fn from(reason: Reason) -> Refusal {
+        reason.at(0)
     }
 }

@@ -1,18 +1,19 @@
 -- What one page adds to those before it: on it stand the next bytes of the text, and where none follows, the text is written whole.
-use Rattle.std.proofs.Common.{ℕ, zero, suc, ◌+◌, ◌-◌, ◌≤◌, ◌<◌, ◌≡◌, sym, ap, ◌∙◌, true, false, List, [], ◌∷◌, ◌++◌, arith, length, take, drop, zero-add, take_all, length-take, ltb-false}
-use Rattle.std.proofs.Math.Seq.{take-nil, take-append_seam}
+use Rattle.std.proofs.Common.{ℕ, suc, ◌+◌, ◌-◌, ◌≤◌, ◌<◌, ◌≡◌, sym, ap, ◌∙◌, Option, Some, None, refl, List, ◌++◌, arith, length, take, drop, take_all}
+use Rattle.std.proofs.Math.Seq.{take-add, take-append_seam}
 use Rattle.sets.specs.Lists.{overwritten}
 use Rattle.pages.specs.declared.page.Printed.{Printed}
 use Rattle.pages.specs.Page.{window, printed_of}
-use Rattle.pages.specs.Laws.Page.{window_fits, page_length, follows}
+use Rattle.pages.specs.Laws.Page.{window_fits, page_length, follows, ends}
 
--- the first bytes of a text, and those behind them
-next_bytes : (from most : ℕ) (l : List ℕ) → take from l ++ take most (drop from l) ≡ take (from + most) l
-next_bytes zero most l = ap (λ n. take n l) (sym (zero-add most))
-next_bytes (suc from) most [] = take-nil most ∙ sym (take-nil (suc from + most))
-next_bytes (suc from) most (x ∷ l) =
-    let e : suc from + most ≡ suc (from + most) = omega arith in
-    ap (λ m. x ∷ m) (next_bytes from most l) ∙ ap (λ n. take n (x ∷ l)) (sym e)
+-- what is written of a text where the next page begins so, or none follows, and how much is left
+abbrev pub written : Option ℕ → List ℕ → List ℕ
+written (Some from) l = take from l
+written None l = l
+
+abbrev pub left : Option ℕ → List ℕ → ℕ
+left (Some from) l = suc (length l - from)
+left None l = 0
 
 -- what a call of `report` says of a text and a page of so many bytes, and what it leaves on the page
 module _ (l page after : List ℕ) (from : ℕ) (r : Printed) (value : r ≡ printed_of from (length page) l) (page_after : after ≡ overwritten (window from (length page) l) page) where
@@ -32,26 +33,23 @@ module _ (l page after : List ℕ) (from : ℕ) (r : Printed) (value : r ≡ pri
       ∙ ap (λ m. take (length w) m) page_after
       ∙ take-append_seam w (drop (length w) page)
 
-  goes_on : r.more ≡ true → (r.next ≡ from + length page) × (r.next < length l)
-  goes_on e =
-      let f = follows l from (length page) (sym (ap (λ (p : Printed). p.more) value) ∙ e) in
-      let n : r.next ≡ (printed_of from (length page) l).next = ap (λ (p : Printed). p.next) value in
-      (n ∙ f.full, omega (arith, n, f.goes_on))
+  next_is : (o : Option ℕ) → r.next ≡ o → (printed_of from (length page) l).next ≡ o
+  next_is o e = sym (ap (λ (p : Printed). p.next) value) ∙ e
 
-  pub next_within : r.more ≡ true → r.next ≤ length l
-  next_within e = let f = goes_on e in omega (arith, f.1)
-
-  pub less_left : r.more ≡ true → 0 < length page → length l - r.next < length l - from
-  less_left e some = let f = goes_on e in omega (arith, f.0, f.1)
-
-  pub so_far : r.more ≡ true → take from l ++ take r.bytes after ≡ take r.next l
+  -- The page adds the text's next bytes to those that are written.
+  pub page_written : take from l ++ take r.bytes after ≡ written r.next l
   unfolding window
-  so_far e =
-      ap (λ m. take from l ++ m) written_is ∙ next_bytes from (length page) l ∙ ap (λ n. take n l) (sym (goes_on e).0)
+  page_written = ap (λ m. take from l ++ m) written_is ∙ sym (take-add from (length page) l) ∙ go r.next refl
+    where
+      go : (o : Option ℕ) → r.next ≡ o → take (from + length page) l ≡ written o l
+      go (Some next) e = ap (λ n. take n l) (sym (follows l from (length page) next (next_is (Some next) e)).full)
+      go None e = take_all (from + length page) l (omega (arith, ends l from (length page) (next_is None e), window_fits l page from))
 
-  pub in_the_end : r.more ≡ false → take from l ++ take r.bytes after ≡ l
-  unfolding printed_of window
-  in_the_end e =
-      let over : length l ≤ from + length (take (length page) (drop from l)) = ltb-false (from + length (take (length page) (drop from l))) (length l) (sym (ap (λ (p : Printed). p.more) value) ∙ e) in
-      ap (λ m. take from l ++ m) written_is ∙ next_bytes from (length page) l
-      ∙ take_all (from + length page) l (omega (arith, over, length-take (length page) (drop from l)))
+  pub less_left : 0 < length page → left r.next l < left (Some from) l
+  less_left some = go r.next refl
+    where
+      go : (o : Option ℕ) → r.next ≡ o → left o l < left (Some from) l
+      go (Some next) e =
+          let f = follows l from (length page) next (next_is (Some next) e) in
+          omega (arith, f.full, f.goes_on)
+      go None e = omega arith

@@ -1,5 +1,5 @@
-// The report on the model text that standard input begins with. The bytes of the report, where each page begins and whether another follows are
-// told and proved in crate `reports`; this reads the input and writes the pages.
+// The report on the model text that standard input begins with. The bytes of the report, and where each page begins if one follows, are told and
+// proved in crate `reports`; this reads the input and writes the pages.
 #![tactic(auto)]
 
 ghost use Rattle.std.specs.Prelude.{◌≡◌, OnOk};
@@ -15,16 +15,13 @@ fn write_report<W: Write>(input: &[u8], out: &mut W) -> io::Result<()>
     ensures { OnOk result (Appends (W.contents out.old) (W.contents out.new) (report_of (judged_part input.now))) }
 {
     let mut page = [0u8; 65536];
-    let mut from = 0;
-    // Each page says where the next one begins and whether there is one, so no range or iterator of std counts them.
-    loop {
+    let mut next = Some(0);
+    while let Some(from) = next {
         let printed = reports::report::report(input, from, &mut page);
         out.write_all(&page[..printed.bytes])?;
-        if !printed.more {
-            return Ok(());
-        }
-        from = printed.next;
+        next = printed.next;
     }
+    Ok(())
 }
 
 fn main(rt: HostRuntime) -> io::Result<()> {

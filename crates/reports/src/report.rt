@@ -2,8 +2,8 @@
 ghost use Rattle.std.specs.Prelude.{◌≡◌, length};
 ghost use Rattle.sets.specs.Lists.{overwritten};
 ghost use Rattle.refusals.specs.Numbers.{number_of};
-ghost use Rattle.models.specs.Written.{model_in};
 ghost use Rattle.pages.specs.Page.{page_of, put, window, printed_of};
+ghost use Rattle.sections.specs.Told.{model_told};
 ghost use Rattle.reports.specs.Report.{model_report, refusal_report, report_of, judged_part};
 
 use pages::page::{Page, Printed};
@@ -22,7 +22,7 @@ fn refusal_report(refusal: Refusal, page: &mut Page<'_>)
 }
 
 fn model_report(read: ReadText<'_>, page: &mut Page<'_>)
-    ensures { page_of page.new ≡ put (model_report (model_in read.entry.text.now)) (page_of page.old) }
+    ensures { page_of page.new ≡ put (model_report (model_told read.entry)) (page_of page.old) }
 {
     sections::verdict::verdict_lines(read, page);
     sections::kinds::kind_lines(read, page);
@@ -33,8 +33,8 @@ fn model_report(read: ReadText<'_>, page: &mut Page<'_>)
 fn whole_report(text: &[u8], page: &mut Page<'_>)
     ensures { page_of page.new ≡ put (report_of text.now) (page_of page.old) }
 {
-    match models::model::read_model(text) {
-        Ok(model) => model_report(ReadText { text, model }, page),
+    match calls::reading::read_text(text) {
+        Ok(m) => model_report(ReadText { m }, page),
         Err(refusal) => refusal_report(refusal, page),
     }
 }
@@ -47,15 +47,15 @@ fn judged(input: &[u8]) -> &[u8]
     &input[..INPUT_BYTES.min(input.len())]
 }
 
-// Writes the part of an input's report that begins after `from` bytes, as much as the page takes, and says how many bytes that are, where the
-// next page begins and whether one follows.
+// Writes the part of an input's report that begins after `from` bytes, as much as the page takes, and says how many bytes that are, and where the
+// next page begins if one follows.
 pub fn report(input: &[u8], from: usize, page: &mut [u8]) -> Printed
     ensures value { result ≡ printed_of from (length page.old) (report_of (judged_part input.now)) }
     ensures page_after { page.new ≡ overwritten (window from (length page.old) (report_of (judged_part input.now))) page.old }
 {
     let mut lent = Page::new(page, from);
     whole_report(judged(input), &mut lent);
-    let (bytes, more) = lent.stored();
-    let next = from + bytes;
-    Printed { bytes, next, more }
+    let bytes = lent.stored();
+    let next = lent.goes_on().then_some(from + bytes);
+    Printed { bytes, next }
 }

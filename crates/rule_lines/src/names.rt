@@ -46,11 +46,7 @@ fn start_from(step: usize, e: &[u8]) -> Option<u8>
     requires { step ≤ 64 }
     ensures { result ≡ start_from step e.now }
 {
-    if step < e.len() {
-        Some((step + 1) as u8)
-    } else {
-        None
-    }
+    (step < e.len()).then_some((step + 1) as u8)
 }
 
 // Whether the parts behind a name may stand there, and if not, why: the step part, which has so many bytes, and after this has passed the start part.
@@ -65,7 +61,8 @@ fn parts_fault(vars: usize, step: usize, e: &[u8]) -> Result<(), Reason>
     lines::expressions::fault_in(vars, false, slices::parts::rest(e, step + 1))
 }
 
-// The line at a place of the text, after the earlier rules.
+// The line at a place of the text, after the earlier rules. It takes no closure to `keyed_line`: its places are counted from that of the line, and only of a
+// value within the text do their sums fit, which would have to be asked of each call of a closure.
 #[tactic(auto, using(crate::proofs::Laws::ByEnd::rule_in_order))]
 pub fn rule_line(
     text: &[u8],

@@ -13,13 +13,14 @@ use native.Mathlib.Nat.{mul-le-mul}
 use native.Mathlib.Omega.{arith}
 use borrow.Author.Tests.{eqb-true, eqb-false, ltb-false, not-true}
 use lib.Dec.{eqb, ltb}
-use lib.ListN.{length, get_or, set, replicate, length-set, length-replicate}
+use lib.ListN.{length, get_or, set, replicate, length-set, length-append, length-replicate}
 use lib.Seq.{get_or-set_same, get_or-set_other}
-use Rattle.std.proofs.lemmas.List.{take_more_set, get_or-take, length-take-le, get_or_past}
+use Rattle.std.proofs.lemmas.List.{get_or_past}
 use Rattle.std.proofs.lemmas.List.Sums.{prefix_len_is}
 use Rattle.std.proofs.lemmas.Option.{cond_some, none-some}
 use Rattle.sets.specs.Tabulated.{tabulate}
 use Rattle.sets.specs.Laws.Tabulated.{tabulated}
+use Rattle.searches.specs.declared.runs.Reached.{Reached}
 use Rattle.searches.specs.declared.runs.Runs.{Runs}
 use Rattle.traces.specs.declared.runs.Run.{Run}
 use Rattle.systems.specs.Laws.Count.{count_le, count_less, count_none, count_one_more}
@@ -34,107 +35,91 @@ use Rattle.searches.proofs.Laws.SearchSteps.{is_marked_nil, is_marked_snoc, star
 use Rattle.searches.proofs.Laws.Search.{explored_collected, explored_short, search_ended, search_trace}
 use Rattle.searches.proofs.Laws.Collecting.{explored_pairs}
 use Rattle.traces.specs.Stored.{no_run, before, runs_in}
-use Rattle.searches.specs.Stored.{found_in, last_at, collection_in, with_run, Sound, Stores, reached_of}
+use Rattle.searches.specs.Stored.{found_in, last_at, collection_in, no_runs, with_run, Sound, Stores, reached_of}
 use Rattle.traces.specs.Laws.Runs.{same_before, runs_snoc, length_runs_in, chained_last, chained_none, chained_snoc}
 
 -- ---- a mark more
 
 module _ {x : Runs} (s : Sound x) where
-  pub sound_few : x.reached.count ≤ 128
-  sound_few = omega (arith, s.counted, count_le 128 (λ u. get_or x.reached.marks u false))
+  pub sound_few : length (found_in x) ≤ 128
+  sound_few = omega (arith, s.counted, count_le 128 (λ u. get_or x.marks u false))
 
-  length_found : length (found_in x) ≡ x.reached.count
-  unfolding found_in
-  length_found = length-take-le x.reached.count x.runs (omega (arith, sound_few, s.runs))
-
-  pub sound_length : length (runs_in (found_in x)) ≡ x.reached.count
-  sound_length = length_runs_in (found_in x) ∙ length_found
+  pub sound_length : length (runs_in (found_in x)) ≡ length (found_in x)
+  sound_length = length_runs_in (found_in x)
 
   -- The state that a run ends in stands there.
-  pub sound_last : (k : ℕ) → k < x.reached.count → last (get_or (runs_in (found_in x)) k []) ≡ last_at x k
-  unfolding found_in
-  sound_last k h =
-      chained_last s.chained k (omega (arith, length_found)) ∙ ap (λ r. r.last) (get_or-take x.reached.count x.runs k no_run h)
+  pub sound_last : (k : ℕ) → k < length (found_in x) → last (get_or (runs_in (found_in x)) k []) ≡ last_at x k
+  sound_last k h = chained_last s.chained k h
 
-  pub sound_room : (t : ℕ) → t < 128 → get_or x.reached.marks t false ≡ false → x.reached.count < 128
-  sound_room t h e = omega (arith, s.counted, count_less (λ u. get_or x.reached.marks u false) 128 t h e)
+  pub sound_room : (t : ℕ) → t < 128 → get_or x.marks t false ≡ false → length (found_in x) < 128
+  sound_room t h e = omega (arith, s.counted, count_less (λ u. get_or x.marks u false) 128 t h e)
 
-  module _ (parent : Option ℕ) (t : ℕ) where
-    new : Run
-    new = record { last = t; parent = parent }
+  new : Option ℕ → ℕ → Run
+  new parent t = record { last = t; parent = parent }
 
-    more_found : x.reached.count < 128 → found_in (with_run x parent t) ≡ found_in x ++ (new ∷ [])
-    unfolding found_in with_run new
-    more_found h = take_more_set x.runs x.reached.count (record { last = t; parent = parent }) (omega (arith, s.runs))
+  more_runs : (parent : Option ℕ) (t : ℕ)
+      → runs_in (found_in x ++ (new parent t ∷ [])) ≡ runs_in (found_in x) ++ ((before (runs_in (found_in x)) parent ++ (t ∷ [])) ∷ [])
+  unfolding new
+  more_runs parent t = runs_snoc (found_in x) (new parent t)
 
-    more_runs : x.reached.count < 128
-        → runs_in (found_in (with_run x parent t)) ≡ runs_in (found_in x) ++ ((before (runs_in (found_in x)) parent ++ (t ∷ [])) ∷ [])
-    unfolding new
-    more_runs h = ap runs_in (more_found h) ∙ runs_snoc (found_in x) new
-
-  more_marked : (t u : ℕ) → t < 128 → get_or (set x.reached.marks t true) u false ≡ (get_or x.reached.marks u false || eqb t u)
+  more_marked : (t u : ℕ) → t < 128 → get_or (set x.marks t true) u false ≡ (get_or x.marks u false || eqb t u)
   more_marked t u h = ⊎_elim other same (dichotomy (eqb t u))
     where
-      same : eqb t u ≡ true → get_or (set x.reached.marks t true) u false ≡ (get_or x.reached.marks u false || eqb t u)
+      same : eqb t u ≡ true → get_or (set x.marks t true) u false ≡ (get_or x.marks u false || eqb t u)
       same e =
-          ap (λ v. get_or (set x.reached.marks t true) v false) (sym (eqb-true t u e))
-          ∙ get_or-set_same x.reached.marks t true false (omega (arith, s.marks))
-          ∙ sym (or_inr (get_or x.reached.marks u false) (eqb t u) e)
+          ap (λ v. get_or (set x.marks t true) v false) (sym (eqb-true t u e))
+          ∙ get_or-set_same x.marks t true false (omega (arith, s.marks))
+          ∙ sym (or_inr (get_or x.marks u false) (eqb t u) e)
 
-      other : eqb t u ≡ false → get_or (set x.reached.marks t true) u false ≡ (get_or x.reached.marks u false || eqb t u)
+      other : eqb t u ≡ false → get_or (set x.marks t true) u false ≡ (get_or x.marks u false || eqb t u)
       other e =
-          get_or-set_other x.reached.marks t u true false (λ g. eqb-false t u e (sym g))
-          ∙ sym (ap (λ b. get_or x.reached.marks u false || b) e ∙ or-false (get_or x.reached.marks u false))
+          get_or-set_other x.marks t u true false (λ g. eqb-false t u e (sym g))
+          ∙ sym (ap (λ b. get_or x.marks u false || b) e ∙ or-false (get_or x.marks u false))
 
-  sound_more : (parent : Option ℕ) (t : ℕ) → t < 128 → get_or x.reached.marks t false ≡ false → ((p : ℕ) → parent ≡ Some p → p < x.reached.count)
-      → Stores (record { runs = runs_in (found_in x) ++ ((before (runs_in (found_in x)) parent ++ (t ∷ [])) ∷ []); pairs = x.reached.pairs }) (with_run x parent t)
+  sound_more : (parent : Option ℕ) (t : ℕ) → t < 128 → get_or x.marks t false ≡ false → ((p : ℕ) → parent ≡ Some p → p < length (found_in x))
+      → Stores (record { runs = runs_in (found_in x) ++ ((before (runs_in (found_in x)) parent ++ (t ∷ [])) ∷ []); pairs = x.pairs }) (with_run x parent t)
   unfolding with_run new
   sound_more parent t h unmarked within = record {
-    runs = more_runs parent t room;
+    runs = more_runs parent t;
     pairs = refl;
     sound = record {
-      marks = length-set x.reached.marks t true ∙ s.marks;
-      runs = length-set x.runs x.reached.count (new parent t) ∙ s.runs;
-      chained = rw (more_found parent t room) (chained_snoc s.chained (new parent t) (omega (arith, length_found, room)) h (λ p e. omega (arith, length_found, within p e)));
+      marks = length-set x.marks t true ∙ s.marks;
+      chained = chained_snoc s.chained (new parent t) room h within;
       marked = λ u.
           more_marked t u h
           ∙ ap₂ ◌||◌ (s.marked u) (ap (λ v. eqb v u) (sym (last_snoc (before (runs_in (found_in x)) parent) t)))
           ∙ sym (is_marked_snoc (runs_in (found_in x)) (before (runs_in (found_in x)) parent ++ (t ∷ [])) u)
-          ∙ ap (λ q. is_marked q u) (sym (more_runs parent t room));
+          ∙ ap (λ q. is_marked q u) (sym (more_runs parent t));
       counted = omega (
         arith,
         s.counted,
-        count_one_more (λ u. get_or x.reached.marks u false) (λ u. get_or (set x.reached.marks t true) u false) t unmarked
-            (get_or-set_same x.reached.marks t true false (omega (arith, s.marks)))
-            (λ u g. sym (get_or-set_other x.reached.marks t u true false g)) 128 h,
+        length-append (found_in x) (new parent t ∷ []),
+        count_one_more (λ u. get_or x.marks u false) (λ u. get_or (set x.marks t true) u false) t unmarked
+            (get_or-set_same x.marks t true false (omega (arith, s.marks)))
+            (λ u g. sym (get_or-set_other x.marks t u true false g)) 128 h,
       );
     };
   }
     where
-      room : x.reached.count < 128
+      room : length (found_in x) < 128
       room = sound_room t h unmarked
 
 -- The count is how many runs there are.
-stores_count : {c : Collection} {x : Runs} → Stores c x → length c.runs ≡ x.reached.count
+stores_count : {c : Collection} {x : Runs} → Stores c x → length c.runs ≡ length (found_in x)
 stores_count a = ap length (sym a.runs) ∙ sound_length a.sound
 
 -- ---- before the first mark
 
--- Before the first run.
-unfoldable pub no_runs : Runs
-no_runs = record { reached = record { marks = replicate 128 false; count = 0; pairs = 0 }; runs = replicate 128 no_run }
-
 -- What is repeated stands at every place, and past the end as well.
-get_d_repeat : {A : Type 0} (n k : ℕ) (a : A) → get_or (replicate n a) k a ≡ a
+pub get_d_repeat : {A : Type 0} (n k : ℕ) (a : A) → get_or (replicate n a) k a ≡ a
 get_d_repeat zero k a = refl
 get_d_repeat (suc n) zero a = refl
 get_d_repeat (suc n) (suc k) a = get_d_repeat n k a
 
 sound_none : Sound no_runs
-unfolding no_runs found_in runs_in
+unfolding no_runs runs_in
 sound_none = record {
   marks = length-replicate 128 false;
-  runs = length-replicate 128 no_run;
   chained = chained_none;
   marked = λ u. get_d_repeat 128 u false ∙ sym (is_marked_nil u);
   counted = sym (count_none (λ u. get_or (replicate 128 false) u false) (λ u. get_d_repeat 128 u false) 128);
@@ -146,9 +131,9 @@ sound_none = record {
 pub record RowStored (parent : Option ℕ) (q : List (List ℕ)) (c : Collection) (y : Runs) : Type 0 where
   pub stores : Stores c y
   pub behind : before (runs_in (found_in y)) parent ≡ before q parent
-  pub within : (p : ℕ) → parent ≡ Some p → p < y.reached.count
+  pub within : (p : ℕ) → parent ≡ Some p → p < length (found_in y)
 
-row_none : {parent : Option ℕ} {x : Runs} → Sound x → ((p : ℕ) → parent ≡ Some p → p < x.reached.count) → RowStored parent (runs_in (found_in x)) (collection_in x) x
+row_none : {parent : Option ℕ} {x : Runs} → Sound x → ((p : ℕ) → parent ≡ Some p → p < length (found_in x)) → RowStored parent (runs_in (found_in x)) (collection_in x) x
 unfolding collection_in
 row_none s within = record { stores = record { runs = refl; pairs = refl; sound = s }; behind = refl; within = within }
 
@@ -157,7 +142,7 @@ module _ {parent : Option ℕ} {q : List (List ℕ)} {c : Collection} {y : Runs}
   tried : Collection
   tried = record { runs = try_state next (before q parent) t c.runs; pairs = c.pairs }
 
-  tested : (b : Bool) → (next t && not (get_or y.reached.marks t false)) ≡ b
+  tested : (b : Bool) → (next t && not (get_or y.marks t false)) ≡ b
       → try_state next (before q parent) t c.runs ≡ cond b (runs_in (found_in y) ++ ((before (runs_in (found_in y)) parent ++ (t ∷ [])) ∷ [])) (runs_in (found_in y))
   unfolding try_state
   tested b e =
@@ -165,7 +150,7 @@ module _ {parent : Option ℕ} {q : List (List ℕ)} {c : Collection} {y : Runs}
       ∙ ap (λ b. cond b (runs_in (found_in y) ++ ((before (runs_in (found_in y)) parent ++ (t ∷ [])) ∷ [])) (runs_in (found_in y)))
       (ap (λ m. next t && not m) (sym (w.stores.sound.marked t)) ∙ e)
 
-  row_passed : (next t && not (get_or y.reached.marks t false)) ≡ false → RowStored parent q tried y
+  row_passed : (next t && not (get_or y.marks t false)) ≡ false → RowStored parent q tried y
   unfolding tried
   row_passed e = record {
     stores = record { runs = sym (tested false e); pairs = w.stores.pairs; sound = w.stores.sound };
@@ -173,23 +158,23 @@ module _ {parent : Option ℕ} {q : List (List ℕ)} {c : Collection} {y : Runs}
     within = w.within;
   }
 
-  unmarked : (next t && not (get_or y.reached.marks t false)) ≡ true → get_or y.reached.marks t false ≡ false
-  unmarked e = not-true (get_or y.reached.marks t false) ((and-eq-true_iff (next t) (not (get_or y.reached.marks t false))).0 e).1
+  unmarked : (next t && not (get_or y.marks t false)) ≡ true → get_or y.marks t false ≡ false
+  unmarked e = not-true (get_or y.marks t false) ((and-eq-true_iff (next t) (not (get_or y.marks t false))).0 e).1
 
-  row_taken : t < 128 → (next t && not (get_or y.reached.marks t false)) ≡ true → RowStored parent q tried (with_run y parent t)
+  row_taken : t < 128 → (next t && not (get_or y.marks t false)) ≡ true → RowStored parent q tried (with_run y parent t)
   unfolding tried with_run
   row_taken h e = record {
     stores = record { runs = m.runs ∙ sym (tested true e); pairs = w.stores.pairs; sound = m.sound };
     behind = ap (λ p. before p parent) m.runs
         ∙ same_before (runs_in (found_in y)) (before (runs_in (found_in y)) parent ++ (t ∷ [])) parent (λ p g. omega (arith, sound_length s, w.within p g))
         ∙ w.behind;
-    within = λ p g. omega (arith, w.within p g);
+    within = λ p g. omega (arith, length-append (found_in y) (record { last = t; parent = parent } ∷ []), w.within p g);
   }
     where
       s : Sound y
       s = w.stores.sound
 
-      m : Stores (record { runs = runs_in (found_in y) ++ ((before (runs_in (found_in y)) parent ++ (t ∷ [])) ∷ []); pairs = y.reached.pairs }) (with_run y parent t)
+      m : Stores (record { runs = runs_in (found_in y) ++ ((before (runs_in (found_in y)) parent ++ (t ∷ [])) ∷ []); pairs = y.pairs }) (with_run y parent t)
       m = sound_more s parent t h (unmarked e) w.within
 
 -- ---- the start states
@@ -199,7 +184,7 @@ pub record StartsStored (start : ℕ → Bool) (s : ℕ) (y : Runs) : Type 0 whe
   pub row : RowStored None [] (record { runs = starts_below start s; pairs = 0 }) y
 
 pub starts_none : {start : ℕ → Bool} → StartsStored start 0 no_runs
-unfolding no_runs found_in runs_in before
+unfolding no_runs runs_in before
 starts_none {start} = record {
   row = record {
     stores = record { runs = sym (starts_below_zero start); pairs = refl; sound = sound_none };
@@ -210,7 +195,7 @@ starts_none {start} = record {
 
 module _ {start : ℕ → Bool} {s : ℕ} {y : Runs} (w : StartsStored start s y) where
   -- The next one has no mark yet,
-  pub starts_unmarked : get_or y.reached.marks s false ≡ false
+  pub starts_unmarked : get_or y.marks s false ≡ false
   starts_unmarked =
       w.row.stores.sound.marked s ∙ ap (λ q. is_marked q s) w.row.stores.runs ∙ next_unmarked start s s (omega arith)
 
@@ -218,7 +203,7 @@ module _ {start : ℕ → Bool} {s : ℕ} {y : Runs} (w : StartsStored start s y
   pub starts_passed : start s ≡ false → StartsStored start (s + 1) y
   unfolding tried before
   starts_passed e = record {
-    row = rw (starts_below_next start s) (row_passed w.row start s (ap (λ b. b && not (get_or y.reached.marks s false)) e));
+    row = rw (starts_below_next start s) (row_passed w.row start s (ap (λ b. b && not (get_or y.marks s false)) e));
   }
 
   pub starts_taken : s < 128 → start s ≡ true → StartsStored start (s + 1) (with_run y None s)
@@ -233,32 +218,31 @@ module _ {start : ℕ → Bool} {s : ℕ} {y : Runs} (w : StartsStored start s y
 pub record PairsStored (size : ℕ) (next : ℕ → Bool) (i : ℕ) (x : Runs) (t : ℕ) (y : Runs) : Type 0 where
   pub row : RowStored (Some i) (runs_in (found_in x)) (try_row size next (get_or (runs_in (found_in x)) i []) t (collection_in x)) y
 
-pub pairs_none : {size : ℕ} {next : ℕ → Bool} {i : ℕ} {x : Runs} → Sound x → i < x.reached.count → PairsStored size next i x 0 x
+pub pairs_none : {size : ℕ} {next : ℕ → Bool} {i : ℕ} {x : Runs} → Sound x → i < length (found_in x) → PairsStored size next i x 0 x
 pairs_none {size} {next} {i} {x} s h = record { row = rw (try_row_zero size next (get_or (runs_in (found_in x)) i []) (collection_in x)) (row_none s (λ p e. let same : i ≡ p = cc in omega arith)) }
 
 -- One pair more is counted.
 unfoldable pub counted : Runs → Runs
-counted y = record { reached = record { marks = y.reached.marks; count = y.reached.count; pairs = y.reached.pairs + 1 }; runs = y.runs }
+counted y = record { marks = y.marks; runs = y.runs; pairs = y.pairs + 1 }
 
 module _ {size : ℕ} {next : ℕ → Bool} {i : ℕ} {x : Runs} {t : ℕ} {y : Runs} (w : PairsStored size next i x t y) where
   c : Collection
   c = try_row size next (get_or (runs_in (found_in x)) i []) t (collection_in x)
 
   -- Where every state is marked, the row has ended.
-  pub pairs_ended : y.reached.count ≡ size → t ≤ size → Stores (try_row size next (get_or (runs_in (found_in x)) i []) size (collection_in x)) y
+  pub pairs_ended : length (found_in y) ≡ size → t ≤ size → Stores (try_row size next (get_or (runs_in (found_in x)) i []) size (collection_in x)) y
   unfolding c
   pairs_ended e h = rw (try_row_stays size next (get_or (runs_in (found_in x)) i []) t (collection_in x) (stores_count w.row.stores ∙ e) size h) w.row.stores
 
   -- Where not, the next pair is counted,
   pair_counted : RowStored (Some i) (runs_in (found_in x)) (record { runs = c.runs; pairs = c.pairs + 1 }) (counted y)
-  unfolding c counted found_in
+  unfolding c counted
   pair_counted = record {
     stores = record {
       runs = w.row.stores.runs;
       pairs = ap (λ n. n + 1) w.row.stores.pairs;
       sound = let s = w.row.stores.sound in record {
         marks = s.marks;
-        runs = s.runs;
         chained = s.chained;
         marked = s.marked;
         counted = s.counted;
@@ -268,7 +252,7 @@ module _ {size : ℕ} {next : ℕ → Bool} {i : ℕ} {x : Runs} {t : ℕ} {y : 
     within = w.row.within;
   }
 
-  next_pair : y.reached.count ≢ size
+  next_pair : length (found_in y) ≢ size
       → try_row size next (get_or (runs_in (found_in x)) i []) (t + 1) (collection_in x)
       ≡ pair_tried next (get_or (runs_in (found_in x)) i []) t c
   unfolding c
@@ -277,12 +261,12 @@ module _ {size : ℕ} {next : ℕ → Bool} {i : ℕ} {x : Runs} {t : ℕ} {y : 
       ∙ try_pair_tried size next (get_or (runs_in (found_in x)) i []) t c (λ e. h (sym (stores_count w.row.stores) ∙ e))
 
   -- and the state is passed over,
-  pub pair_passed : y.reached.count ≢ size → (next t && not (get_or y.reached.marks t false)) ≡ false → PairsStored size next i x (t + 1) (counted y)
+  pub pair_passed : length (found_in y) ≢ size → (next t && not (get_or y.marks t false)) ≡ false → PairsStored size next i x (t + 1) (counted y)
   unfolding c counted tried pair_tried before
   pair_passed h e = record { row = rw (next_pair h) (row_passed pair_counted next t e) }
 
   -- or marked.
-  pub pair_taken : t < 128 → y.reached.count ≢ size → (next t && not (get_or y.reached.marks t false)) ≡ true
+  pub pair_taken : t < 128 → length (found_in y) ≢ size → (next t && not (get_or y.marks t false)) ≡ true
       → PairsStored size next i x (t + 1) (with_run (counted y) (Some i) t)
   unfolding c counted tried pair_tried before
   pair_taken b h e = record { row = rw (next_pair h) (row_taken pair_counted next t b e) }
@@ -290,21 +274,21 @@ module _ {size : ℕ} {next : ℕ → Bool} {i : ℕ} {x : Runs} {t : ℕ} {y : 
 -- ---- the whole search
 
 module _ (M : System) (i : ℕ) {x : Runs} (a : Stores (explored M i) x) where
-  pub stores_short : x.reached.count ≤ M.size
+  pub stores_short : length (found_in x) ≤ M.size
   stores_short = omega (arith, stores_count a, explored_short M i)
 
   -- Every run ends in a state of the system.
-  pub stores_state : (k : ℕ) → k < x.reached.count → last_at x k < M.size
+  pub stores_state : (k : ℕ) → k < length (found_in x) → last_at x k < M.size
   stores_state k h =
       subst (λ s. s < M.size) (ap (λ q. last (get_or q k [])) (sym a.runs) ∙ sound_last a.sound k h)
       (walk_last (get_or (explored M i).runs k []) ((explored_collected M i).runs k (omega (arith, stores_count a))))
 
   -- No more pairs have been tried than there are.
-  pub stores_tried : M.size ≤ 128 → i ≤ 128 → x.reached.pairs ≤ 128 * 128
+  pub stores_tried : M.size ≤ 128 → i ≤ 128 → x.pairs ≤ 128 * 128
   stores_tried h b = omega (arith, a.pairs, explored_pairs M i, mul-le-mul h b)
 
   -- Where the run at place i has been tried with every state, one run more has been explored.
-  pub stores_next : {y : Runs} → i < x.reached.count
+  pub stores_next : {y : Runs} → i < length (found_in x)
       → Stores (try_row M.size (M.step (last_at x i)) (get_or (runs_in (found_in x)) i []) M.size (collection_in x)) y → Stores (explored M (i + 1)) y
   unfolding collection_in
   stores_next {y} h b = rw (explored_next M i (omega (arith, stores_count a)), ← last_is, ← a.runs, ← a.pairs) b
@@ -313,24 +297,24 @@ module _ (M : System) (i : ℕ) {x : Runs} (a : Stores (explored M i) x) where
       last_is = sym (sound_last a.sound i h) ∙ ap (λ q. last (get_or q i [])) a.runs
 
   -- Where every run has been tried, the search has ended;
-  pub stores_all : x.reached.count ≤ i → Stores (search M) x
+  pub stores_all : length (found_in x) ≤ i → Stores (search M) x
   stores_all h = rw (search_ended M i (omega (arith, stores_count a))) a
 
   -- and where every state is marked.
-  pub stores_full : x.reached.count ≡ M.size → i ≤ M.size → Stores (search M) x
+  pub stores_full : length (found_in x) ≡ M.size → i ≤ M.size → Stores (search M) x
   unfolding search
   stores_full e h = rw (explored_full M i (stores_count a ∙ e) M.size h) a
 
 -- The marks, the count and the pairs of the whole search are its answer.
-pub stored_reached : (M : System) (x : Runs) → Stores (search M) x → x.reached ≡ reached_of M
+pub stored_reached : (M : System) (x : Runs) → Stores (search M) x → ◌≡◌ {A = Reached} (record { marks = x.marks; count = length (found_in x); pairs = x.pairs }) (reached_of M)
 unfolding reached_of
 stored_reached M x a =
-    ap₂ (λ m n. record { marks = m; count = n; pairs = x.reached.pairs }) marks (sym (stores_count a))
+    ap₂ (λ m n. record { marks = m; count = n; pairs = x.pairs }) marks (sym (stores_count a))
     ∙ ap (λ n. record { marks = tabulate 128 (is_marked (search M).runs); count = length (search M).runs; pairs = n }) a.pairs
   where
-    marks : x.reached.marks ≡ tabulate 128 (is_marked (search M).runs)
+    marks : x.marks ≡ tabulate 128 (is_marked (search M).runs)
     marks =
-        tabulated 128 (is_marked (search M).runs) false x.reached.marks a.sound.marks
+        tabulated 128 (is_marked (search M).runs) false x.marks a.sound.marks
         (λ s _. a.sound.marked s ∙ ap (λ q. is_marked q s) a.runs)
 
 -- ---- the first run to a bad state

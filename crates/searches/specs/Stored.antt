@@ -1,5 +1,5 @@
 -- How a search holds what it has collected, and the reached states as a struct. Assumes nothing: these are definitions.
-use Rattle.std.specs.Prelude.{ℕ, ◌+◌, ◌*◌, ◌≤◌, ◌<◌, ◌≡◌, true, false, List, Option, length, get_or, take, set}
+use Rattle.std.specs.Prelude.{ℕ, ◌*◌, ◌≤◌, ◌<◌, ◌≡◌, true, false, List, [], ◌∷◌, ◌++◌, Option, length, get_or, set, replicate}
 use Rattle.sets.specs.Tabulated.{tabulate}
 use Rattle.searches.specs.declared.runs.Reached.{Reached}
 use Rattle.searches.specs.declared.runs.Runs.{Runs}
@@ -12,53 +12,56 @@ use Rattle.searches.specs.Search.{Collection, search}
 
 -- ---- what has been collected
 
--- The runs that are found: as many as there are marks.
-unfoldable pub found_in : Runs → List Run
-found_in x = take x.reached.count x.runs
+-- The runs that are found.
+abbrev pub found_in : Runs → List Run
+found_in x = x.runs.items
 
 -- The state that the run at place i ends in.
 abbrev pub last_at : Runs → ℕ → ℕ
-last_at x i = (get_or x.runs i no_run).last
+last_at x i = (get_or (found_in x) i no_run).last
 
 -- What has been collected.
 unfoldable pub collection_in : Runs → Collection
-unfolding found_in runs_in
-collection_in x = record { runs = runs_in (found_in x); pairs = x.reached.pairs }
+unfolding runs_in
+collection_in x = record { runs = runs_in (found_in x); pairs = x.pairs }
+
+-- Before the first run.
+unfoldable pub no_runs : Runs
+no_runs = record { marks = replicate 128 false; runs = record { items = [] }; pairs = 0 }
 
 -- One run more, to state t behind the run at place `parent`, or behind none.
 unfoldable pub with_run : Runs → Option ℕ → ℕ → Runs
 with_run x parent t =
-    let r = x.reached in
     record {
-      reached = record { marks = set r.marks t true; count = r.count + 1; pairs = r.pairs };
-      runs = set x.runs r.count (record { last = t; parent = parent });
+      marks = set x.marks t true;
+      runs = record { items = found_in x ++ ((record { last = t; parent = parent }) ∷ []) };
+      pairs = x.pairs;
     }
 
--- The marks are those of the runs that are found, and the count is how many there are.
+-- The marks are those of the runs that are found, and there are as many of one as of the other.
 pub record Sound (x : Runs) : Type 0 where
-  pub marks : length x.reached.marks ≡ 128
-  pub runs : length x.runs ≡ 128
+  pub marks : length x.marks ≡ 128
   pub chained : Chained (found_in x)
-  pub marked : (s : ℕ) → get_or x.reached.marks s false ≡ is_marked (runs_in (found_in x)) s
-  pub counted : x.reached.count ≡ count 128 (λ s. get_or x.reached.marks s false)
+  pub marked : (s : ℕ) → get_or x.marks s false ≡ is_marked (runs_in (found_in x)) s
+  pub counted : length (found_in x) ≡ count 128 (λ s. get_or x.marks s false)
 
 -- x holds the collection c.
 pub record Stores (c : Collection) (x : Runs) : Type 0 where
   pub runs : runs_in (found_in x) ≡ c.runs
-  pub pairs : x.reached.pairs ≡ c.pairs
+  pub pairs : x.pairs ≡ c.pairs
   pub sound : Sound x
 
 -- There is room for a run more, to state t.
 pub record Markable (x : Runs) (t : ℕ) : Type 0 where
-  pub room : x.reached.count < 128
+  pub room : length (found_in x) < 128
   pub state : t < 128
 
 -- The run at place i is stored and ends in a state whose row is a part of the masks. No more pairs have been tried than there are.
 pub record Triable (states i : ℕ) (x : Runs) : Type 0 where
   pub sound : Sound x
-  pub found : i < x.reached.count
+  pub found : i < length (found_in x)
   pub state : last_at x i < states
-  pub tried : x.reached.pairs ≤ 128 * 128
+  pub tried : x.pairs ≤ 128 * 128
 
 -- ---- the reached states
 

@@ -2,54 +2,42 @@
 // none once every state is reached.
 ghost use Rattle.std.specs.Prelude.{◌≡◌, [], get_or};
 ghost use Rattle.searches.specs.Search.{starts_below, try_row, search};
-ghost use Rattle.systems.specs.ByTables.{step_by, start_by, system_by};
+ghost use Rattle.systems.specs.BySystems.{step_among, start_among, system_among};
 ghost use Rattle.traces.specs.Stored.{runs_in};
-ghost use Rattle.searches.specs.Stored.{found_in, last_at, collection_in, Stores, Triable, reached_of};
+ghost use Rattle.searches.specs.Stored.{found_in, last_at, collection_in, no_runs, Stores, Triable, reached_of};
 
 use crate::runs::{Reached, Runs};
-use systems::systems::Systems;
-use traces::runs::Run;
+use sets::ruleset::RuleSet;
+use systems::systems::{Systems, meets};
 
-// The start states of the set are marked, by number. The start parts that they meet stand in the row behind those of the states.
-fn find_starts(systems: Systems, set: u16) -> Runs
-    ensures { Stores (record { runs = starts_below (start_by systems.entry.masks.now systems.entry.tables.now set) systems.entry.tables.now.states; pairs = 0 }) result }
+// The start states of the set are marked, by number. The runs are lent, here and below, since moving them takes longer than a small search.
+fn find_starts(systems: Systems, set: RuleSet, x: &mut Runs)
+    requires { x.old ≡ no_runs }
+    ensures { Stores (record { runs = starts_below (start_among systems.entry set.0) systems.entry.tables.now.states; pairs = 0 }) x.new }
 {
-    let mut x = Runs {
-        reached: Reached {
-            marks: [false; 128],
-            count: 0,
-            pairs: 0,
-        },
-        runs: [Run {
-            last: 0,
-            parent: None,
-        }; 128],
-    };
-    let row = 128 * systems.tables.states;
-    for t in 0..systems.tables.states {
-        if systems.tables.init[t] & ((systems.masks[row + t] & set) == set) {
+    for (t, mask) in systems.start_row().iter().enumerate() {
+        if systems.tables.init[t] & meets(*mask, set) {
             x.mark(None, t);
         }
     }
-    x
 }
 
 // The last state of the run at place i is tried as the first of a pair with every state, by number, until every state is reached. The masks have rows
 // of pairs for the states alone, so it has to be one of them.
 #[tactic(auto, using(crate::proofs::Stored::sound_few))]
-fn try_row(systems: Systems, set: u16, i: usize, x: &mut Runs)
+fn try_row(systems: Systems, set: RuleSet, i: usize, x: &mut Runs)
     requires { Triable systems.tables.now.states i x.old }
-    ensures { Stores (try_row systems.entry.tables.now.states (step_by systems.entry.masks.now set (last_at x.old i))
+    ensures { Stores (try_row systems.entry.tables.now.states (step_among systems.entry set.0 (last_at x.old i))
         (get_or (runs_in (found_in x.old)) i []) systems.entry.tables.now.states (collection_in x.old)) x.new }
 {
     let states = systems.tables.states;
     let from = x.runs[i].last as usize;
-    for t in 0..states {
-        if x.reached.count == states {
+    for (t, mask) in systems.row(from).iter().enumerate() {
+        if x.runs.len() == states {
             return;
         }
-        x.reached.pairs += 1;
-        if ((systems.masks[128 * from + t] & set) == set) & !x.reached.marks[t] {
+        x.pairs += 1;
+        if meets(*mask, set) & !x.marks[t] {
             x.mark(Some(i as u8), t);
         }
     }
@@ -57,26 +45,32 @@ fn try_row(systems: Systems, set: u16, i: usize, x: &mut Runs)
 
 // Every run is tried once, in the order of marking, until every state is reached.
 #[tactic(auto, using(crate::proofs::Stored::sound_few))]
-pub(crate) fn explore(systems: Systems, set: u16) -> Runs
-    ensures { Stores (search (system_by systems.entry.masks.now systems.entry.tables.now set)) result }
+pub(crate) fn explore(systems: Systems, set: RuleSet, x: &mut Runs)
+    requires { x.old ≡ no_runs }
+    ensures { Stores (search (system_among systems.entry set.0)) x.new }
 {
-    let mut x = find_starts(systems, set);
+    find_starts(systems, set, x);
     let mut i = 0;
     // No `for`, since the runs that are tried here grow in number.
-    while i < x.reached.count {
-        if x.reached.count == systems.tables.states {
-            return x;
+    while i < x.runs.len() {
+        if x.runs.len() == systems.tables.states {
+            return;
         }
-        try_row(systems, set, i, &mut x);
+        try_row(systems, set, i, x);
         i += 1;
     }
-    x
 }
 
 // The reached states, and how many pairs of states were tried.
 #[tactic(auto, using(crate::proofs::Stored::stored_reached))]
-pub fn reached(systems: Systems, set: u16) -> Reached
-    ensures { result ≡ reached_of (system_by systems.entry.masks.now systems.entry.tables.now set) }
+pub fn reached(systems: Systems, set: RuleSet) -> Reached
+    ensures { result ≡ reached_of (system_among systems.entry set.0) }
 {
-    explore(systems, set).reached
+    let mut x = Runs::none();
+    explore(systems, set, &mut x);
+    Reached {
+        marks: x.marks,
+        count: x.runs.len(),
+        pairs: x.pairs,
+    }
 }

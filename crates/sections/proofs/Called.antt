@@ -1,9 +1,13 @@
 -- The kinds of rules and the lists that the code is given for an accepted text, when enough bytes are lent, are the text's own.
 -- From the laws of the answers and their ranges. Assumes nothing.
 use Prim.Native.Nat.{ℕ, ◌*◌, ◌^◌, ◌≤◌, ◌<◌}
-use mathlib.Core.Path.{◌≡◌, ap, ap₂, ◌∙◌}
+use mathlib.Core.Path.{◌≡◌, refl, sym, ap, ap₂, ◌∙◌}
 use mathlib.Core.List.{List, ◌++◌}
+use mathlib.Core.Bool.{false}
 use native.Mathlib.Omega.{arith}
+use Rattle.std.specs.Prelude.{Option, Some, IsSome, ltb}
+use Rattle.std.proofs.Common.{le-ltb}
+use Rattle.std.proofs.lemmas.Option.{same_Some}
 use Rattle.std.specs.List.{All}
 use Rattle.std.proofs.lemmas.List.Elements.{All-from_get_or, All-weaker}
 use lib.ListN.{length, get_or, take, drop, length-take}
@@ -23,13 +27,13 @@ use Rattle.sorting.specs.declared.kinds.Kind.{Kind}
 use Rattle.sorting.specs.declared.kinds.Kind.TheVariants.{Must, May, Irrelevant}
 use Rattle.sorting.specs.declared.kinds.Kinds.{Kinds}
 use Rattle.sorting.specs.Kinds.{kinds_of}
-use Rattle.refusals.specs.Answers.{Answer}
-use Rattle.calls.specs.Answers.{rules_in, judge_in, list_in, kind_in, list_answer, list_bytes}
+use Rattle.finding.specs.Lists.{listed_answer, listed_bytes}
+use Rattle.calls.specs.Answers.{rules_in, judge_in, list_in, kind_in}
 use Rattle.calls.specs.AsRead.{IsRead}
-use Rattle.calls.proofs.Laws.Answers.{rules_le, rules_read_lem, read_model_lem, list_enough}
+use Rattle.calls.proofs.Laws.Answers.{rules_le, rules_read_lem, read_model_lem}
 use Rattle.calls.proofs.Laws.Sizes.{list_le, kind_lt}
 use Rattle.sections.specs.Sections.{set_line, kind_lines}
-use Rattle.sections.specs.Decoded.{decoded, sets_written}
+use Rattle.sections.specs.Decoded.{decoded}
 use Rattle.sections.specs.Laws.Decoded.{decoded_bytes}
 
 -- ---- the kinds of rules
@@ -82,34 +86,52 @@ pub record Holding (m : Model) (sets : List ℕ) (end : ℕ) (after : List ℕ) 
   pub same : decoded (take end after) ≡ sets
   pub below : All (λ S. S < 2 ^ m.rules) (decoded (take end after))
 
-module _ (text : List ℕ) (m : Model) (r : IsRead text m) (which : WhichList) (lent : List ℕ) (room : length lent ≡ 131072) (a : Answer ℕ) (after : List ℕ) (said : (a ≡ list_answer which text lent) × (after ≡ list_bytes which text lent)) where
-  enough : 2 * length (list_in which text) ≤ length lent
-  enough = omega (arith, room, list_le which text)
+-- The list of the text's model is found over the front of the lent bytes.
+module _ (which : WhichList) (lent : List ℕ) {text : List ℕ} {m : Model} (r : IsRead text m) (room : length lent ≡ 131072) where
+  list_is : listed which m.rules (judge (described text m)) ≡ list_in which text
+  unfolding list_in rules_in judge_in
+  list_is = ap₂ (λ (R : ℕ) D. listed which R (judge D)) (rules_read_lem r) (read_model_lem r)
 
-  count : sets_written a ≡ length (list_in which text)
-  unfolding sets_written
-  count = ap sets_written (said.0 ∙ (list_enough text r.outcome which lent enough).says)
+  enough : ltb (length lent) (2 * length (list_in which text)) ≡ false
+  enough = le-ltb (length lent) (2 * length (list_in which text)) (omega (arith, room, list_le which text))
 
-  pub count_few : sets_written a ≤ 65536
-  count_few = omega (arith, count, list_le which text)
+  answered : listed_answer (listed which m.rules (judge (described text m))) lent ≡ Some (length (list_in which text))
+  unfolding listed_answer
+  answered = rw (list_is, enough)
 
-  pub list_held : (end : ℕ) → end ≡ 2 * sets_written a → Holding m (list_in which text) end after
-  unfolding overwritten
-  list_held end e =
-      record {
-        fits = omega (arith, ap length front, length-take end after, length_bytes_of (list_in which text), count);
-        same = ap decoded front ∙ same_sets;
-        below = rw (front, same_sets) few;
-      }
-    where
-      front : take end after ≡ bytes_of (list_in which text)
-      front =
-          ap (take end) (said.1 ∙ (list_enough text r.outcome which lent enough).writes)
-          ∙ take_at (bytes_of (list_in which text)) (drop (length (bytes_of (list_in which text))) lent) end
-          (omega (arith, length_bytes_of (list_in which text), count))
+  written : listed_bytes (listed which m.rules (judge (described text m))) lent ≡ overwritten (bytes_of (list_in which text)) lent
+  unfolding listed_bytes
+  written = rw (list_is, enough)
 
-      few : All (λ S. S < 2 ^ m.rules) (list_in which text)
-      few = All-from_get_or (λ S. S < 2 ^ m.rules) _ 0 (λ i l. rw (rules_read_lem r) (list_below which text i l))
+  -- so many sets are listed, and this is what the lent bytes hold then
+  module _ {after : List ℕ} {o : Option ℕ} (says : o ≡ listed_answer (listed which m.rules (judge (described text m))) lent) (writes : after ≡ listed_bytes (listed which m.rules (judge (described text m))) lent) where
+    pub is_listed : IsSome o
+    is_listed = rw (says ∙ answered) refl
 
-      same_sets : decoded (bytes_of (list_in which text)) ≡ list_in which text
-      same_sets = decoded_bytes (list_in which text) (All-weaker (λ S. S < 2 ^ m.rules) (λ S. S < 65536) (λ S l. omega (arith, pow_mono (rules_le r))) (list_in which text) few)
+    module _ {n : ℕ} (unwrapped : o ≡ Some n) where
+      count : n ≡ length (list_in which text)
+      count = same_Some _ _ (sym unwrapped ∙ says ∙ answered)
+
+      pub count_few : n ≤ 65536
+      count_few = omega (arith, count, list_le which text)
+
+      pub list_held : (end : ℕ) → end ≡ 2 * n → Holding m (list_in which text) end after
+      unfolding overwritten
+      list_held end e =
+          record {
+            fits = omega (arith, ap length front, length-take end after, length_bytes_of (list_in which text), count);
+            same = ap decoded front ∙ same_sets;
+            below = rw (front, same_sets) few;
+          }
+        where
+          front : take end after ≡ bytes_of (list_in which text)
+          front =
+              ap (take end) (writes ∙ written)
+              ∙ take_at (bytes_of (list_in which text)) (drop (length (bytes_of (list_in which text))) lent) end
+              (omega (arith, length_bytes_of (list_in which text), count))
+
+          few : All (λ S. S < 2 ^ m.rules) (list_in which text)
+          few = All-from_get_or (λ S. S < 2 ^ m.rules) _ 0 (λ i l. rw (rules_read_lem r) (list_below which text i l))
+
+          same_sets : decoded (bytes_of (list_in which text)) ≡ list_in which text
+          same_sets = decoded_bytes (list_in which text) (All-weaker (λ S. S < 2 ^ m.rules) (λ S. S < 65536) (λ S l. omega (arith, pow_mono (rules_le r))) (list_in which text) few)

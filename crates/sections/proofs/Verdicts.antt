@@ -2,12 +2,13 @@
 -- From the laws of traces, of a text that was read and of a loop that puts. Assumes nothing.
 use Prim.Native.Nat.{ℕ, ◌+◌, ◌≤◌, ◌<◌}
 use mathlib.Core.Path.{◌≡◌, sym, ap, ap₂, ◌∙◌}
-use mathlib.Core.Logic.{◌≢◌}
 use mathlib.Core.Bool.{true, false}
 use mathlib.Core.List.{List, ◌++◌, flat_map}
 use mathlib.Mathlib.Data.Bool.Basic.{eq-false_of_not-eq-true}
 use native.Mathlib.Omega.{arith}
-use lib.ListN.{length, take, length-take}
+use lib.Dec.{eqb}
+use lib.ListN.{length}
+use Rattle.std.proofs.lemmas.Bool.{eqb-true, eqb-false}
 use Rattle.sets.specs.Bit.{full}
 use Rattle.sets.specs.Tabulated.{tabulate}
 use Rattle.sets.specs.Laws.Tabulated.{length_tabulate, get_d_tabulate}
@@ -22,10 +23,10 @@ use Rattle.models.proofs.Laws.Changed.{described_by_property}
 use Rattle.traces.specs.declared.trace.Trace.{Trace}
 use Rattle.systems.specs.System.{System}
 use Rattle.systems.specs.Verdict.{holds, trace_of}
-use Rattle.traces.specs.Traced.{trace_array}
+use Rattle.traces.specs.Traced.{states_of, trace_array}
 use Rattle.traces.specs.Laws.Traced.{trace_holds, trace_states}
 use Rattle.semantics.specs.Meaning.{system_of}
-use Rattle.semantics.specs.TablesOf.{Few}
+use Rattle.semantics.specs.Few.{Few}
 use Rattle.calls.specs.Answers.{rules_in}
 use Rattle.calls.specs.AsRead.{IsRead}
 use Rattle.calls.proofs.Laws.Answers.{few, read_model_lem, rules_read_lem}
@@ -44,32 +45,25 @@ lines_broken : (N : System) → holds N ≡ false → line (bytes "verdict=") (b
 unfolding verdict_lines
 lines_broken N e = rw e
 
--- The trace of the full set S is t.
-module _ (M : Described) (R S : ℕ) (all : S ≡ full R) (t : Trace) (said : t ≡ trace_array (system_of M S)) where
-  abbrev N : System
+-- The states are those of the trace of the full set S.
+module _ (M : Described) (R S : ℕ) (all : S ≡ full R) {t : Trace} {states : List ℕ} (said : t ≡ trace_array (system_of M S)) (told : states ≡ states_of t) where
+  N : System
   N = system_of M (full R)
 
-  trace_is : t ≡ trace_array N
-  trace_is = said ∙ ap (λ (T : ℕ). trace_array (system_of M T)) all
+  states_are : states ≡ states_of (trace_array N)
+  unfolding N
+  states_are = told ∙ ap states_of (said ∙ ap (λ (T : ℕ). trace_array (system_of M T)) all)
 
-  states_are : take t.length t.states ≡ trace_of N
-  states_are = ap (λ (x : Trace). take x.length x.states) trace_is ∙ trace_states N
+  pub verdict_held : eqb (length states) 0 ≡ true → line (bytes "verdict=") (bytes "holds") ≡ verdict_lines (system_of M (full R))
+  unfolding N
+  verdict_held e = lines_held N ((trace_holds N).0 (sym (ap length states_are) ∙ eqb-true _ _ e))
 
-  count_is : t.length ≡ (trace_array N).length
-  count_is = ap (λ (x : Trace). x.length) trace_is
-
-  pub trace_fits : t.length ≤ length t.states
-  unfolding trace_array
-  trace_fits = omega (arith, count_is, ap length states_are, length-take t.length t.states)
-
-  pub verdict_held : t.length ≡ 0 → line (bytes "verdict=") (bytes "holds") ≡ verdict_lines (system_of M (full R))
-  verdict_held e = lines_held N ((trace_holds N).0 (sym count_is ∙ e))
-
-  pub verdict_broken : t.length ≢ 0
-      → line (bytes "verdict=") (bytes "broken") ++ flat_map (number_line (bytes "state=")) (take t.length t.states) ≡ verdict_lines (system_of M (full R))
-  verdict_broken n =
-      ap (λ l. line (bytes "verdict=") (bytes "broken") ++ flat_map (number_line (bytes "state=")) l) states_are
-      ∙ lines_broken N (eq-false_of_not-eq-true (λ e. n (count_is ∙ (trace_holds N).1 e)))
+  pub verdict_broken : eqb (length states) 0 ≡ false
+      → line (bytes "verdict=") (bytes "broken") ++ flat_map (number_line (bytes "state=")) states ≡ verdict_lines (system_of M (full R))
+  unfolding N
+  verdict_broken e =
+      ap (λ l. line (bytes "verdict=") (bytes "broken") ++ flat_map (number_line (bytes "state=")) l) (states_are ∙ trace_states N)
+      ∙ lines_broken N (eq-false_of_not-eq-true (λ h. eqb-false _ _ e (ap length states_are ∙ (trace_holds N).1 h)))
 
 -- ---- the verdicts by each property
 

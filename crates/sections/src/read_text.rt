@@ -1,12 +1,11 @@
 // A text that was read.
 ghost use Rattle.calls.specs.AsRead.{IsRead};
 
-use models::model::Model;
+use semantics::model_text::ModelText;
 
-// An accepted text, with the places of its model.
+// An accepted text, with its model.
 #[derive(Clone, Copy)]
 pub struct ReadText<'a> {
-    pub text: &'a [u8],
-    pub model: Model,
-    ghost is_read: { IsRead text.now model },
+    pub m: ModelText<'a>,
+    ghost is_read: { IsRead m.text.now m.model },
 }

@@ -3,13 +3,13 @@ ghost use Rattle.std.specs.Prelude.{◌≡◌, ◌<◌, ◌^◌};
 ghost use Rattle.std.specs.List.{All};
 ghost use mathlib.Core.List.{flat_map};
 ghost use Rattle.lines.specs.Bytes.{bytes};
-ghost use Rattle.models.specs.Written.{model_in};
 ghost use Rattle.pages.specs.Page.{page_of, put};
 ghost use Rattle.pages.specs.Numbers.{number_line};
+ghost use Rattle.sections.specs.Told.{model_told};
 ghost use Rattle.sections.specs.Sections.{set_line, count_key, set_key, list_lines};
 ghost use Rattle.sections.specs.Decoded.{decoded};
 
-use crate::names::set_line;
+use crate::names::NamedSet;
 use crate::read_text::ReadText;
 use pages::page::Page;
 use sets::ruleset::RuleSet;
@@ -47,23 +47,33 @@ fn keys_of(which: WhichList) -> Keys
     }
 }
 
-// A line for each of the sets that the bytes hold, two bytes a set, low byte first.
-fn set_lines(read: ReadText<'_>, key: &[u8], sets: &[u8], page: &mut Page<'_>)
-    requires { All (λ S. S < 2 ^ read.model.rules) (decoded sets.now) }
-    ensures { page_of page.new ≡ put (flat_map (set_line (model_in read.entry.text.now) key.now) (decoded sets.now)) (page_of page.old) }
-{
-    let (pairs, _) = sets.as_chunks::<2>();
-    for pair in pairs {
-        set_line(read, key, RuleSet(u16::from_le_bytes(*pair)), page);
-    }
+// The sets of a list as bytes, two bytes a set, low byte first; each is a set of a text's rules.
+#[derive(Clone, Copy)]
+pub(crate) struct ListedSets<'a> {
+    pub(crate) read: ReadText<'a>,
+    pub(crate) bytes: &'a [u8],
+    ghost few: { All (λ S. S < 2 ^ read.m.model.rules) (decoded bytes.now) },
 }
 
-// The count line of the sets that the bytes hold, and a line for each.
-pub(crate) fn list_lines(read: ReadText<'_>, which: WhichList, sets: &[u8], page: &mut Page<'_>)
-    requires { All (λ S. S < 2 ^ read.model.rules) (decoded sets.now) }
-    ensures { page_of page.new ≡ put (list_lines (model_in read.entry.text.now) which (decoded sets.now)) (page_of page.old) }
-{
-    let keys = keys_of(which);
-    page.number_line(keys.count, sets.len() / 2);
-    set_lines(read, keys.set, sets, page);
+impl ListedSets<'_> {
+    // A line for each of the sets.
+    fn put_lines(self, key: &[u8], page: &mut Page<'_>)
+        ensures { page_of page.new ≡ put (flat_map (set_line (model_told self.entry.read) key.now) (decoded self.entry.bytes.now)) (page_of page.old) }
+    {
+        let read = self.read;
+        let (pairs, _) = self.bytes.as_chunks::<2>();
+        for pair in pairs {
+            let set = RuleSet(u16::from_le_bytes(*pair));
+            NamedSet { read, set }.put_line(key, page);
+        }
+    }
+
+    // The count line of the sets, and a line for each.
+    pub(crate) fn put_list(self, which: WhichList, page: &mut Page<'_>)
+        ensures { page_of page.new ≡ put (list_lines (model_told self.entry.read) which (decoded self.entry.bytes.now)) (page_of page.old) }
+    {
+        let keys = keys_of(which);
+        page.number_line(keys.count, self.bytes.len() / 2);
+        self.put_lines(keys.set, page);
+    }
 }

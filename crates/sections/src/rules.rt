@@ -15,12 +15,9 @@ impl Iterator for Rules {
 
     ghost remaining = { item_count rules_left };
 
-    #[tactic(auto, using(crate::specs::Laws::Rules::none_left, crate::specs::Laws::Rules::first_left))]
+    #[tactic(auto, using(crate::specs::Laws::Rules::none_left, crate::specs::Laws::Rules::first_left, sets::specs::Laws::First::told_below))]
     fn next(&mut self) -> Option<usize> {
-        if self.0.0 == 0 {
-            return None;
-        }
-        let first = self.0.first();
+        let first = self.0.first()?;
         self.0 = self.0.without(first);
         Some(first)
     }

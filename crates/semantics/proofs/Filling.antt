@@ -3,8 +3,9 @@
 use Rattle.std.specs.Prelude.{ℕ, ◌+◌, ◌-◌, ◌*◌, ◌/◌, ◌%◌, ◌<◌, ◌≤◌, ◌≡◌, ◌≢◌, refl, Bool, true, false, ◌&&◌, List, ◌++◌, ltb, length, get_or, take, drop, set, replicate}
 use Rattle.std.proofs.Common.{sym, ◌∙◌, arith, lt-ltb, le-ltb, append_assoc, length-append, length-drop, length-take-le}
 use Rattle.std.proofs.Math.Path.{ap, ap₂, subst}
-use Rattle.std.proofs.lemmas.List.{length-take, length-set, length-replicate, get_or-replicate}
-use Rattle.std.proofs.Math.Decide.{dec_lt}
+use Rattle.std.proofs.lemmas.List.{length-take, length-set, length-replicate, get_or-replicate, get_or-set_same, get_or-set_other, get_or-append_right, get_or-drop}
+use Rattle.std.proofs.Math.ListN.{get_or-append}
+use Rattle.std.proofs.Math.Decide.{dec_lt, ℕ_discrete}
 use Prim.Native.Nat.{zero-le}
 use mathlib.Core.Bool.{and-false}
 use mathlib.Core.List.{append-nil}
@@ -19,16 +20,31 @@ use Rattle.semantics.proofs.Laws.TablesOf.{entry_at, length_rows}
 
 -- ---- the marks
 
-unmarked : (size : ℕ) {answers : ℕ → Bool → Type 0} (marks : List Bool) → marks ≡ replicate size false → size ≡ 128 → MarksWhere answers 0 marks
-unmarked size marks e k = record {
-  size = ap length e ∙ length-replicate {A = Bool} size false ∙ k;
-  each = λ s h. absurd (omega arith);
-  past = λ s _ h. ap (λ l. get_or l s false) e ∙ get_or-replicate size s false false (omega arith);
-}
+-- The first s of n marks are those that a test passes, of which is known what it may answer at each.
+pub record MarkedTo (answers : ℕ → Bool → Type 0) (n : ℕ) (marks : List Bool) (s : ℕ) : Type 0 where
+  pub size : length marks ≡ n
+  pub each : (t : ℕ) → t < s → answers t (get_or marks t false)
 
--- at first no state has a mark
-pub no_marks : (answers : ℕ → Bool → Type 0) → MarksWhere answers 0 (replicate 128 false)
-no_marks answers = unmarked 128 (replicate 128 false) refl refl
+pub none_marked : (answers : ℕ → Bool → Type 0) (n : ℕ) (marks : List Bool) → length marks ≡ n → MarkedTo answers n marks 0
+none_marked answers n marks e = record { size = e; each = λ t h. absurd (omega arith) }
+
+module _ (answers : ℕ → Bool → Type 0) (n : ℕ) (marks : List Bool) (s : ℕ) (h : MarkedTo answers n marks s) where
+  pub one_marked : (b : Bool) → s < length marks → answers s b → MarkedTo answers n (set marks s b) (s + 1)
+  one_marked b l said = record { size = length-set marks s b ∙ h.size; each = λ t g. at t g (ℕ_discrete t s) }
+    where
+      at : (t : ℕ) → t < s + 1 → Dec (t ≡ s) → answers t (get_or (set marks s b) t false)
+      at t g (yes e) = rw (e, get_or-set_same marks s b false l) said
+      at t g (no d) = rw (get_or-set_other marks s t b false d) (h.each t (omega arith))
+
+  -- all n have come back as a part of the array, whose other entries stay false
+  pub all_marked : n ≤ s → n ≤ 128 → MarksWhere answers n (marks ++ drop n (replicate 128 false))
+  all_marked l few = record {
+    size = length-append marks (drop n (replicate 128 false)) ∙ omega (arith, h.size, length-drop n (replicate 128 false), length-replicate {A = Bool} 128 false);
+    each = λ t g. rw (get_or-append marks (drop n (replicate 128 false)) false t (omega (arith, h.size))) (h.each t (omega arith));
+    past = λ t g k.
+        get_or-append_right marks (drop n (replicate 128 false)) n t false h.size g
+        ∙ get_or-drop n (replicate 128 false) (t - n) false ∙ get_or-replicate 128 (n + (t - n)) false false (omega arith);
+  }
 
 -- where the test may answer nothing but what p says, the marks are those of p
 pub marks_told : {answers : ℕ → Bool → Type 0} {n : ℕ} {marks : List Bool} → MarksWhere answers n marks → (p : ℕ → Bool)

@@ -1,6 +1,6 @@
 -- Four masks side by side in one word, 16 places each: which place each bit of a word goes to, what one rule more adds, and that the 16 places
 -- from 16 * j on are mask j. From the places of a number and the set of the numbers that pass a test. Assumes nothing.
-use Rattle.std.specs.Prelude.{ℕ, ◌+◌, ◌-◌, ◌*◌, ◌/◌, ◌%◌, ◌^◌, ◌<◌, ◌≤◌, ◌≡◌, ◌≢◌, refl, Bool, true, false, not, ◌&&◌, ◌||◌, List, [], eqb, ltb, length, get_or, take, set}
+use Rattle.std.specs.Prelude.{ℕ, ◌+◌, ◌-◌, ◌*◌, ◌/◌, ◌%◌, ◌^◌, ◌<◌, ◌≤◌, ◌≡◌, ◌≢◌, refl, Bool, true, false, not, ◌&&◌, ◌||◌, List, [], ◌∷◌, eqb, ltb, length, get_or, take}
 use Rattle.std.specs.Int.Bits.{bit_and, bit_or}
 use Rattle.std.proofs.Common.{sym, ◌∙◌, arith, pow_mono, eqb-true, get_or-take}
 use Rattle.std.proofs.Math.Path.{ap, ap₂}
@@ -17,7 +17,6 @@ use Rattle.sets.specs.Laws.Cores.{none_below_iff, false_if}
 use Rattle.sets.specs.Gathered.{one as one_or_none, set_of}
 use Rattle.sets.specs.Tabulated.{tabulate}
 use Rattle.sets.specs.Laws.Gathered.{has_set_of, is_set_of, set_of_lt, set_of_same, set_of_none, or_set_of}
-use Rattle.semantics.proofs.Filling.{FilledTo, none_filled, one_filled, all_filled}
 
 -- ---- four bits, 16 places apart
 
@@ -152,22 +151,13 @@ mask_in_four words t four j few h e =
     ∙ below_only (length words) (λ i. has (get_or words i 0) (t + j)) few
     (λ i g. ap (λ (w : ℕ). has w (t + j)) (get_or_past words i 0 g) ∙ no_bit (t + j))
 
--- Stores of all four.
-module _ (four : ℕ) (part : List ℕ) (all : length part ≡ 4) where
-  one : FilledTo (one_of_four four) part (set part 0 (four % 65536)) 1
-  one =
-      let first : four % 65536 ≡ four / 1 % 65536 = omega arith in
-      one_filled (one_of_four four) part part 0 (none_filled (one_of_four four) part) _ (omega arith) (first ∙ quarter four 0)
-
-  two : FilledTo (one_of_four four) part (set (set part 0 (four % 65536)) 1 (four / 2 ^ 16 % 65536)) 2
-  two = one_filled (one_of_four four) part _ 1 one _ (omega (arith, one.kept)) (quarter four 1)
-
-  three : FilledTo (one_of_four four) part (set (set (set part 0 (four % 65536)) 1 (four / 2 ^ 16 % 65536)) 2 (four / 2 ^ 32 % 65536)) 3
-  three = one_filled (one_of_four four) part _ 2 two _ (omega (arith, two.kept)) (quarter four 2)
-
-  last : FilledTo (one_of_four four) part (set (set (set (set part 0 (four % 65536)) 1 (four / 2 ^ 16 % 65536)) 2 (four / 2 ^ 32 % 65536)) 3 (four / 2 ^ 48 % 65536)) 4
-  last = one_filled (one_of_four four) part _ 3 three _ (omega (arith, three.kept)) (quarter four 3)
-
-  pub stored : set (set (set (set part 0 (four % 65536)) 1 (four / 2 ^ 16 % 65536)) 2 (four / 2 ^ 32 % 65536)) 3 (four / 2 ^ 48 % 65536)
-      ≡ tabulate (length part) (one_of_four four)
-  stored = all_filled (one_of_four four) part _ 4 last (omega (arith, last.kept))
+-- All four, one after the other.
+pub one_by_one : (four : ℕ) → four % 65536 ∷ four / 2 ^ 16 % 65536 ∷ four / 2 ^ 32 % 65536 ∷ four / 2 ^ 48 % 65536 ∷ [] ≡ tabulate 4 (one_of_four four)
+unfolding tabulate
+one_by_one four =
+    let whole : four % 65536 ≡ four / 1 % 65536 = omega arith in
+    let a = whole ∙ quarter four 0 in
+    let b = quarter four 1 in
+    let c = quarter four 2 in
+    let d = quarter four 3 in
+    cc

@@ -4,10 +4,11 @@
 use Rattle.std.specs.Prelude.{ℕ, ◌+◌, ◌*◌, ◌/◌, ◌%◌, ◌^◌, ◌≤◌, ◌<◌, ◌≡◌, Bool, false, cond, ◌&&◌, List, ltb, length, get_or}
 use Rattle.sets.specs.Gathered.{set_of}
 use Rattle.sets.specs.Tabulated.{tabulate}
-use Rattle.models.specs.declared.model.Model.{Model}
-use Rattle.models.specs.Written.{Described, described}
+use Rattle.models.specs.Written.{Described}
 use Rattle.systems.specs.declared.tables.Tables.{Tables}
 use Rattle.systems.specs.declared.systems.Systems.{Systems}
+use Rattle.semantics.specs.declared.model_text.ModelText.{ModelText}
+use Rattle.semantics.specs.ByText.{described_by}
 use Rattle.semantics.specs.Meaning.{init_met, start_met, bad_of, step_met}
 
 -- ---- the masks
@@ -51,24 +52,11 @@ pub record MarksWhere (answers : ℕ → Bool → Type 0) (n : ℕ) (marks : Lis
 unfoldable pub tables_of : Described → Tables
 tables_of M = record { rules = length M.rules; states = 2 ^ M.vars; init = marks_of (2 ^ M.vars) (init_met M); bad = marks_of (2 ^ M.vars) (bad_of M) }
 
--- ---- where they go
-
--- The model is no larger than the arrays: at most 7 letters, 16 rules and 4 properties.
-pub record Few (m : Model) : Type 0 where
-  pub vars : m.vars ≤ 7
-  pub rules : m.rules ≤ 16
-  pub properties : m.properties ≤ 4
-
--- There is room for its masks, too.
-pub record RoomFor (m : Model) (masks : List ℕ) : Type 0 where
-  pub few : Few m
-  pub room : 128 * (2 ^ m.vars + 1) ≤ length masks
-
 -- ---- when they are filled
 
--- The masks and tables are those of the model that the text tells, over what was there before.
-pub record Filled (text : List ℕ) (m : Model) (s : Systems) : Type 0 where
+-- The masks and tables are those of the model that the text describes, over what was there before, which had room for them.
+pub record Filled (m : ModelText) (s : Systems) : Type 0 where
   pub before : List ℕ
-  pub room : RoomFor m before
-  pub masks_are : s.masks.now ≡ masks_of before (described text m)
-  pub tables_are : s.tables.now ≡ tables_of (described text m)
+  pub room : 128 * (2 ^ m.model.vars + 1) ≤ length before
+  pub masks_are : s.masks.now ≡ masks_of before (described_by m)
+  pub tables_are : s.tables.now ≡ tables_of (described_by m)

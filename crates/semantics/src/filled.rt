@@ -2,64 +2,59 @@
 // here, in three sizes: small models would spend most of their time clearing the largest.
 ghost use Rattle.std.specs.Prelude.{◌≡◌, ◌+◌, ◌*◌, ◌^◌, ◌≤◌};
 ghost use Rattle.systems.specs.declared.systems.Systems.{Systems};
-ghost use Rattle.semantics.specs.TablesOf.{Few, Filled};
+ghost use Rattle.semantics.specs.TablesOf.{Filled};
 ghost use Rattle.semantics.specs.Lent.{TakesSystems, AnswersBySystems};
 
-use models::model::Model;
+use crate::model_text::ModelText;
 use systems::systems::Systems;
 
-// What the closure makes of them and of the lent bytes, with room for so many masks.
+// What the closure makes of them and of the lent bytes, with room for so many masks. That there is room is asked here, of `fill` and of `fill_masks`, and is no
+// ghost field of what is lent: behind a `&mut` a slice could be exchanged for another.
 fn with_room<const MASKS: usize, R, F: FnOnce(Systems, &mut [u8]) -> R>(
-    text: &[u8],
-    m: Model,
+    m: ModelText,
     lent: &mut [u8],
     run: F,
 ) -> R
-    requires few { Few m }
-    requires room { (128 * (2 ^ m.vars + 1) ≤ MASKS) × (MASKS ≤ 16512) }
-    requires callable { TakesSystems (F.pre run) text.now m lent.old }
-    ensures { AnswersBySystems (F.post run) text.now m lent.old result lent.new }
+    requires room { (128 * (2 ^ m.model.vars + 1) ≤ MASKS) × (MASKS ≤ 16512) }
+    requires callable { TakesSystems (F.pre run) m lent.old }
+    ensures { AnswersBySystems (F.post run) m.entry lent.old result lent.new }
 {
     let mut masks = [0u16; MASKS];
-    let t = crate::tables::fill(text, m, &mut masks[..]);
+    let tables = crate::tables::fill(m, &mut masks[..]);
     run(
         Systems {
             masks: &masks[..],
-            tables: &t,
+            tables: &tables,
         },
         lent,
     )
 }
 
-// What the closure makes of them and of the lent bytes. Both are filled once. The text and its model stay two parameters here and above: of one value that
-// holds both, a clause would say `described d.entry.text.now d.entry.model` for `described text.now m`, and each caller would make it for one call.
+// What the closure makes of them and of the lent bytes. Both are filled once. The bytes are lent to the closure as an argument, since of what it has written
+// to a slice that it holds nothing would be known here.
 pub fn with_systems_over<R, F: FnOnce(Systems, &mut [u8]) -> R>(
-    text: &[u8],
-    m: Model,
+    m: ModelText,
     lent: &mut [u8],
     run: F,
 ) -> R
-    requires few { Few m }
-    requires callable { TakesSystems (F.pre run) text.now m lent.old }
-    ensures { AnswersBySystems (F.post run) text.now m lent.old result lent.new }
+    requires callable { TakesSystems (F.pre run) m lent.old }
+    ensures { AnswersBySystems (F.post run) m.entry lent.old result lent.new }
 {
-    if m.vars <= 2 {
-        with_room::<640, _, _>(text, m, lent, run)
-    } else if m.vars <= 4 {
-        with_room::<2176, _, _>(text, m, lent, run)
+    if m.model.vars <= 2 {
+        with_room::<640, _, _>(m, lent, run)
+    } else if m.model.vars <= 4 {
+        with_room::<2176, _, _>(m, lent, run)
     } else {
-        with_room::<16512, _, _>(text, m, lent, run)
+        with_room::<16512, _, _>(m, lent, run)
     }
 }
 
 // What the closure makes of them.
-pub fn with_systems<R, F: FnOnce(Systems) -> R>(text: &[u8], m: Model, run: F) -> R
-    requires few { Few m }
-    requires callable { (s : Systems) → Filled text.now m s → F.pre run s }
-    ensures { (s : Systems) × Filled text.now m s × F.post run s result }
+pub fn with_systems<R, F: FnOnce(Systems) -> R>(m: ModelText, run: F) -> R
+    requires callable { (s : Systems) → Filled m s → F.pre run s }
+    ensures { (s : Systems) × Filled m.entry s × F.post run s result }
 {
     with_systems_over(
-        text,
         m,
         &mut [],
         |systems: Systems, _: &mut [u8]| -> R

@@ -3,6 +3,8 @@
 
 pub mod filled;
 mod masks;
+pub mod model_text;
 mod starts;
 pub mod tables;
 pub mod values;
+mod written_rules;

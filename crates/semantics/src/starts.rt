@@ -1,10 +1,11 @@
 // The start masks: for each state the set of the rules whose start part it meets.
-ghost use Rattle.std.specs.Prelude.{◌≡◌, ◌≤◌, length};
+ghost use Rattle.std.specs.Prelude.{◌≡◌, length};
 ghost use Rattle.std.specs.List.{list_all};
 ghost use Rattle.std.specs.Option.{is_none};
 ghost use Rattle.sets.specs.Tabulated.{tabulate};
 ghost use Rattle.semantics.specs.Places.{meets_start, start_mask_by};
 
+use crate::written_rules::WrittenRules;
 use rule_lines::names::RuleParts;
 use sets::ruleset::RuleSet;
 
@@ -22,17 +23,17 @@ fn meets_start(text: &[u8], parts: RuleParts, s: usize) -> bool
 }
 
 // The set of the rules whose start part a state meets.
-fn start_mask(text: &[u8], rules: &[RuleParts], s: usize) -> u16
-    requires { length rules.now ≤ 16 }
-    ensures { result ≡ start_mask_by text.now rules.now s }
+#[tactic(auto, unfolding(crate::specs::Places::start_mask_by))]
+fn start_mask(rules: WrittenRules, s: usize) -> RuleSet
+    ensures { result.0 ≡ start_mask_by rules.entry.text.now rules.entry.parts.now s }
 {
-    let mut met = RuleSet::empty();
-    for (i, parts) in rules.iter().enumerate() {
-        if meets_start(text, *parts, s) {
+    let mut met = RuleSet::EMPTY;
+    for (i, parts) in rules.parts.iter().enumerate() {
+        if meets_start(rules.text, *parts, s) {
             met = met.with(i);
         }
     }
-    met.0
+    met
 }
 
 // Whether none of the rules has a start part.
@@ -43,15 +44,16 @@ fn none_has(rules: &[RuleParts]) -> bool
 }
 
 // The start masks of the states from 0 on, as many as the row has entries. Without start parts every one has all rules, and no rule is looked at again.
-pub(crate) fn fill_starts(text: &[u8], rules: &[RuleParts], row: &mut [u16])
-    requires { length rules.now ≤ 16 }
-    ensures { row.new ≡ tabulate (length row.old) (start_mask_by text.now rules.now) }
+// They are numbers, as the masks of `Systems`.
+#[tactic(auto, using(crate::proofs::Filling::none_filled, crate::proofs::Filling::all_filled))]
+pub(crate) fn fill_starts(rules: WrittenRules, row: &mut [u16])
+    ensures { let x = rules.entry in row.new ≡ tabulate (length row.old) (start_mask_by x.text.now x.parts.now) }
 {
-    if none_has(rules) {
-        row.fill(RuleSet::full(rules.len()).0);
+    if none_has(rules.parts) {
+        row.fill(RuleSet::full(rules.parts.len()).0);
     } else {
         for (s, mask) in row.iter_mut().enumerate() {
-            *mask = start_mask(text, rules, s);
+            *mask = start_mask(rules, s).0;
         }
     }
 }

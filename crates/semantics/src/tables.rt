@@ -1,13 +1,14 @@
 // The masks and tables of a model, computed once from its text.
-ghost use Rattle.std.specs.Prelude.{◌≡◌, ◌^◌, ◌≤◌};
-ghost use Rattle.models.specs.Written.{described};
-ghost use Rattle.semantics.specs.TablesOf.{MarksWhere, masks_of, tables_of, RoomFor};
+ghost use Rattle.std.specs.Prelude.{◌≡◌, ◌+◌, ◌*◌, ◌^◌, ◌≤◌, length};
+ghost use Rattle.semantics.specs.ByText.{described_by};
+ghost use Rattle.semantics.specs.TablesOf.{MarksWhere, masks_of, tables_of};
 ghost use Rattle.semantics.specs.Places.{meets_all};
 
-use models::model::Model;
-use systems::tables::Tables;
+use crate::model_text::ModelText;
+use crate::written_rules::WrittenRules;
+use systems::tables::{STATES, Tables};
 
-// How many states a model of `vars` letters has.
+// How many states a model of `vars` letters has. Beside `set_count` of sets, since letters are no rules and their bounds differ.
 pub fn state_count(vars: usize) -> usize
     requires { vars ≤ 7 }
     ensures { result ≡ 2 ^ vars }
@@ -26,31 +27,38 @@ fn meets_all(text: &[u8], places: &[usize], s: usize) -> bool
 }
 
 // The marks of the states that pass a test.
-fn marks_where<F: Fn(usize) -> bool>(states: usize, test: F) -> [bool; 128]
+fn marks_where<F: Fn(usize) -> bool>(states: usize, test: F) -> [bool; STATES]
     requires few { states ≤ 128 }
     requires callable { F.IsAlwaysCallable test }
     ensures { MarksWhere (F.post test) states result }
 {
-    let mut marks = [false; 128];
-    for s in 0..states {
-        marks[s] = test(s);
+    let mut marks = [false; STATES];
+    for (s, mark) in marks[..states].iter_mut().enumerate() {
+        *mark = test(s);
     }
     marks
 }
 
-// The masks and tables of the model that stands at the places m of the text.
-pub fn fill(text: &[u8], m: Model, masks: &mut [u16]) -> Tables
-    requires { RoomFor m masks.old }
-    ensures value { result ≡ tables_of (described text.now m) }
-    ensures masks_after { masks.new ≡ masks_of masks.old (described text.now m) }
+// The masks and tables of a model.
+pub(crate) fn fill(m: ModelText, masks: &mut [u16]) -> Tables
+    requires { 128 * (2 ^ m.model.vars + 1) ≤ length masks.old }
+    ensures value { result ≡ tables_of (described_by m.entry) }
+    ensures masks_after { masks.new ≡ masks_of masks.old (described_by m.entry) }
 {
-    let states = state_count(m.vars);
-    crate::masks::fill_masks(text, &m.parts[..m.rules], states, masks);
-    let props = &m.props[..m.properties];
+    let states = state_count(m.model.vars);
+    let rules = WrittenRules {
+        text: m.text,
+        parts: m.model.rules(),
+    };
+    crate::masks::fill_masks(rules, states, masks);
+    let props = m.model.properties();
     Tables {
-        rules: m.rules,
+        rules: m.model.rules,
         states,
-        init: marks_where(states, |s| crate::values::is_met(text, m.init, s, s)),
-        bad: marks_where(states, |s| !meets_all(text, props, s)),
+        init: marks_where(
+            states,
+            |s| crate::values::is_met(m.text, m.model.init, s, s),
+        ),
+        bad: marks_where(states, |s| !meets_all(m.text, props, s)),
     }
 }

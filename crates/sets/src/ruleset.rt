@@ -1,14 +1,17 @@
 // A set of rules as a number: the first rule weighs 1, the next 2, and so on. No model has more than 16 rules.
 ghost use Rattle.std.specs.Prelude.{◌≡◌, ◌-◌, ◌^◌, ◌<◌, ◌≤◌};
 ghost use Rattle.std.specs.Int.Bits.{bit_and};
-ghost use Rattle.std.specs.Int.Count.{ones, count_trailing_zeros};
+ghost use Rattle.std.specs.Int.Count.{ones};
 ghost use Rattle.sets.specs.Bit.{has, full};
 ghost use Rattle.sets.specs.Sets.{without, with};
+ghost use Rattle.sets.specs.Next.{next_if_any};
 
+// What a call answers, and the structs that it answers, hold a set as the number by which the C interface gives and takes it.
 #[derive(Clone, Copy, Debug, PartialEq, Eq)]
 pub struct RuleSet(pub u16);
 
-// How many sets of so many rules there are: each set's number is below it.
+// How many sets of so many rules there are: each set's number is below it. How many rules there are is a number, here and above, and no type of its own: a model
+// has it among its places, and a text with its model knows that it is small (`Few`).
 pub fn set_count(rules: usize) -> usize
     requires { rules ≤ 16 }
     ensures { result ≡ 2 ^ rules }
@@ -16,22 +19,9 @@ pub fn set_count(rules: usize) -> usize
     1 << rules
 }
 
-// The rules of one set that another lacks. An operation of its own, so that a caller writes no operator that asks for a fact.
-pub fn less(rules: u16, gone: u16) -> u16
-    ensures { result ≡ rules - bit_and rules gone }
-{
-    rules & !gone
-}
-
 impl RuleSet {
-    pub const EMPTY: RuleSet = RuleSet(0);
-
     // The empty set.
-    pub fn empty() -> RuleSet
-        ensures { result.0 ≡ 0 }
-    {
-        RuleSet::EMPTY
-    }
+    pub const EMPTY: RuleSet = RuleSet(0);
 
     // The full set of so many rules.
     pub fn full(rules: usize) -> RuleSet
@@ -48,14 +38,17 @@ impl RuleSet {
         self.0.count_ones() as usize
     }
 
-    // The first rule of the set in the model's order; 16 if it has none, as the library counts a number's trailing zeros.
-    pub fn first(self) -> usize
-        ensures { result ≡ count_trailing_zeros 16 self.0 }
+    // The first rule of the set in the model's order.
+    pub fn first(self) -> Option<usize>
+        ensures { result ≡ next_if_any (has self.0) 0 16 }
     {
-        self.0.trailing_zeros() as usize
+        if self == RuleSet::EMPTY {
+            return None;
+        }
+        Some(self.0.trailing_zeros() as usize)
     }
 
-    // Whether a rule is in the set.
+    // Whether a rule is in the set. A rule is a place below 16, asked by a clause of each method: a type of such places would be made anew at each call.
     #[tactic(auto, unfolding(crate::specs::Bit::has))]
     pub fn has(self, rule: usize) -> bool
         requires { rule < 16 }
@@ -79,5 +72,12 @@ impl RuleSet {
         ensures { result.0 ≡ with self.0 rule }
     {
         RuleSet(self.0 | 1 << rule)
+    }
+
+    // The rules of the set that another lacks. An operation of its own, so that a caller writes no operator that asks for a fact.
+    pub fn less(self, gone: RuleSet) -> RuleSet
+        ensures { result.0 ≡ self.0 - bit_and self.0 gone.0 }
+    {
+        RuleSet(self.0 & !gone.0)
     }
 }

@@ -1,8 +1,8 @@
 // The numbers below 64 as the bits of a word, so that 64 sets of six rules are handled at once.
-ghost use Rattle.std.specs.Prelude.{◌≡◌, ◌<◌, cond};
+ghost use Rattle.std.specs.Prelude.{◌≡◌, ◌<◌};
 ghost use Rattle.sets.specs.Bit.{has};
-ghost use Rattle.sets.specs.Sets.{part, apart};
-ghost use Rattle.sets.specs.Gathered.{set_of};
+ghost use Rattle.sets.specs.Sets.{part};
+ghost use Rattle.sets.specs.Gathered.{set_of, AgreesAt};
 
 // The sets that have a rule.
 pub fn having(rule: usize) -> u64
@@ -19,26 +19,26 @@ pub fn having(rule: usize) -> u64
     }
 }
 
-// The sets that have each rule of a set; with `none`, those that have no rule of it.
-fn agreeing(set: usize, none: bool) -> u64
-    requires { set < 64 }
-    ensures { result ≡ set_of 64 (λ t. cond none (apart set t) (part set t)) }
+// The sets that fit at each rule of a set, where `fitting` gives those that fit at a rule.
+fn agreeing<F: Fn(usize) -> u64>(set: usize, fitting: F) -> u64
+    requires { F.IsAlwaysCallable fitting }
+    ensures { AgreesAt (F.post fitting) set result }
 {
     let mut word = u64::MAX;
     for rule in 0..6 {
         if (set >> rule) % 2 == 1 {
-            word &= if none { !having(rule) } else { having(rule) };
+            word &= fitting(rule);
         }
     }
     word
 }
 
-// The sets of which a set is a part.
+// The sets of which a set is a part: they have each of its rules.
 pub fn above(set: usize) -> u64
     requires { set < 64 }
     ensures { result ≡ set_of 64 (λ t. part set t) }
 {
-    agreeing(set, false)
+    agreeing(set, having)
 }
 
 // The parts of a set: they have no rule that it lacks.
@@ -46,5 +46,5 @@ pub fn below(set: usize) -> u64
     requires { set < 64 }
     ensures { result ≡ set_of 64 (λ t. part t set) }
 {
-    agreeing(63 - set, true)
+    agreeing(63 - set, |rule| !having(rule))
 }

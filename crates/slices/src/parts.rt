@@ -1,4 +1,4 @@
-// Parts of a slice that is handed on, and nothing copied: `ptr` says where a part lies. Each answers for every place, so that no caller has to show
+// Parts of a slice that is handed on, and nothing copied: `ref_ptr` says where a part lies. Each answers for every place, so that no caller has to show
 // that a place is within.
 ghost use Rattle.std.specs.Prelude.{◌≡◌, ◌-◌, take, drop, get_or};
 ghost use Rattle.slices.specs.Address.{rest_address, part_address};
@@ -30,14 +30,14 @@ pub fn part(s: &[u8], from: usize, to: usize) -> &[u8]
     rest(front(s, to), from)
 }
 
-// The byte at a place, and 0 past the end.
+// The byte at a place, and 0 past the end: it is compared at once with a byte that is not 0, where an Option would be no plainer.
 pub fn byte_at(s: &[u8], at: usize) -> u8
     ensures { result ≡ get_or s.now at 0 }
 {
     s.get(at).copied().unwrap_or(0)
 }
 
-// Whether two slices hold the same bytes.
+// Whether two slices hold the same bytes. Of its own, since `same` is the word of the definitions above, and `==` promises another.
 #[tactic(auto, unfolding(crate::specs::Same::same))]
 pub fn same_bytes(a: &[u8], b: &[u8]) -> bool
     ensures { result ≡ same a.now b.now }

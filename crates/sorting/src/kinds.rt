@@ -25,14 +25,14 @@ pub struct Kinds {
     pub irrelevant: u16,
 }
 
-// The rules that some marked set has.
+// The rules that some marked set has: a number, as `ByNumber` gives the sets and `Kinds` holds them.
 fn together(sets: MarkedSets) -> u16
     ensures { result ≡ together (list_of sets.entry.rules (marked sets.entry.table.now)) }
 {
     sets.by_number().fold(0, |all, set| all | set)
 }
 
-// The rules that every marked set has; if none is marked, no rule.
+// The rules that every marked set has, likewise; if none is marked, no rule, as the definition has it.
 fn common(sets: MarkedSets) -> u16
     ensures { result ≡ common (list_of sets.entry.rules (marked sets.entry.table.now)) }
 {
@@ -43,11 +43,11 @@ fn common(sets: MarkedSets) -> u16
 pub fn kinds_of(sets: MarkedSets) -> Kinds
     ensures { result ≡ kinds_by sets.entry.rules (list_of sets.entry.rules (marked sets.entry.table.now)) }
 {
-    let some = together(sets);
-    let must = common(sets);
+    let some = RuleSet(together(sets));
+    let must = RuleSet(common(sets));
     Kinds {
-        must,
-        may: sets::ruleset::less(some, must),
-        irrelevant: sets::ruleset::less(RuleSet::full(sets.rules).0, some),
+        must: must.0,
+        may: some.less(must).0,
+        irrelevant: RuleSet::full(sets.rules).less(some).0,
     }
 }

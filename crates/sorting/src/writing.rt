@@ -16,7 +16,7 @@ pub fn count(sets: MarkedSets) -> usize
     sets.by_number().count()
 }
 
-// The sizes of the marked sets: bit k is set if one of them has k rules. Most lists have few sizes, so that few rounds write them.
+// The sizes of the marked sets, which `ByNumber` gives as numbers: bit k is set if one of them has k rules. Most lists have few sizes, so that few rounds write them.
 fn sizes(sets: MarkedSets) -> usize
     ensures { Noted (marked sets.entry.table.now) (2 ^ sets.entry.rules) result }
 {
@@ -37,7 +37,8 @@ fn put_sized(set: RuleSet, size: usize, lent: &mut [u8]) -> usize
     }
 }
 
-// Writes the marked sets that have so many rules to the front of the lent bytes, and says how many bytes that took.
+// Writes the marked sets that have so many rules to the front of the lent bytes, and says how many bytes that took. `at`, here and below, counts the bytes
+// that are written so far: it is no index of the loop, which some turns leave as it is.
 fn write_sized(sets: MarkedSets, size: usize, lent: &mut [u8]) -> usize
     requires { 2 * length (select (sized (marked sets.table.now) size) (2 ^ sets.rules)) ≤ length lent.old }
     ensures { Written (select (sized (marked sets.entry.table.now) size) (2 ^ sets.entry.rules)) lent.old lent.new result }

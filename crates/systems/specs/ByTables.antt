@@ -1,7 +1,7 @@
 -- The transition system that tables give a rule set, and its verdict: the marks of the states that meet `init` and of the bad ones stand in `Tables`,
 -- entry 128 * s + t of the masks is the set of the rules whose step part the pair (s, t) meets, and the row behind those of the states has at t the set
 -- of the rules whose start part the state t meets. Assumes nothing: these are definitions.
-use Rattle.std.specs.Prelude.{ℕ, ◌+◌, ◌*◌, ◌≤◌, Bool, false, ◌&&◌, List, eqb, length, get_or}
+use Rattle.std.specs.Prelude.{ℕ, ◌+◌, ◌*◌, ◌≤◌, Bool, false, ◌&&◌, List, eqb, length, get_or, take, drop}
 use Rattle.std.specs.Int.Bits.{bit_and}
 use Rattle.systems.specs.declared.tables.Tables.{Tables}
 use Rattle.systems.specs.System.{System}
@@ -24,6 +24,10 @@ start_by masks t set s = mark_at t.init s && step_by masks set t.states s
 pub record HasRoom (masks : List ℕ) (t : Tables) : Type 0 where
   pub few : t.states ≤ 128
   pub room : 128 * (t.states + 1) ≤ length masks
+
+-- Row s of the masks: that of a state, or the one behind those of the states.
+unfoldable pub row_by : (masks : List ℕ) → Tables → (s : ℕ) → List ℕ
+row_by masks t s = take t.states (drop (128 * s) masks)
 
 -- The system of the set.
 unfoldable pub system_by : (masks : List ℕ) → Tables → (set : ℕ) → System

@@ -8,3 +8,4 @@ pub mod Depth
 pub mod Holds
 pub mod Compare
 pub mod HoldsTo
+pub mod Rows

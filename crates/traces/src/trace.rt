@@ -6,40 +6,57 @@ ghost use Rattle.traces.specs.Stored.{runs_in, Chained};
 ghost use Rattle.traces.specs.Traced.{trace_with};
 
 use crate::runs::Run;
+use arrayvec::ArrayVec;
+use systems::tables::STATES;
 
-// So many states; what follows them is 0. A set that holds has none. The array has room for the largest model, since the library has no heap.
-#[derive(Clone, Copy)]
+// The states of a run that ends in a bad state, in their order. They lie in the value itself, since the library has no heap; not `Copy`, as an `ArrayVec` is
+// not. A set that holds has none, and no Option tells it: the definition of a trace is a list, which is empty then.
+#[derive(Clone, Drop)]
 pub struct Trace {
-    pub length: usize,
-    pub states: [u8; 128],
+    path: ArrayVec<u8, STATES>,
+}
+
+impl Trace {
+    ghost use Rattle.traces.specs.Traced.{states_of};
+
+    // The trace of a set that holds.
+    #[tactic(auto, unfolding(crate::specs::Traced::trace_with))]
+    pub fn none() -> Trace
+        ensures { result ≡ trace_with [] }
+    {
+        Trace {
+            path: ArrayVec::new(),
+        }
+    }
+
+    // The states in their order.
+    pub fn states(&self) -> &[u8]
+        ensures { result.now ≡ states_of self.now }
+    {
+        &self.path
+    }
 }
 
 // The place of the first run to a bad state, if there is one.
 #[tactic(auto, unfolding(systems::specs::ByTables::mark_at))]
-pub fn first_bad(runs: &[Run], bad: &[bool; 128]) -> Option<usize>
+pub fn first_bad(runs: &[Run], bad: &[bool; STATES]) -> Option<usize>
     requires { Chained runs.now }
     ensures { result ≡ position (λ run. mark_at bad.now run.last) runs.now }
 {
     runs.iter().position(|run| bad[run.last as usize])
 }
 
-// The run at a place, if there is one there. It is written from its end, where the parents begin, and then brought to the front.
+// The run at a place; no state, if there is none there, as in the list of the runs. Its states are met from its end on, and then turned round.
 pub fn run_at(runs: &[Run], place: usize) -> Trace
     requires { Chained runs.now }
     ensures { result ≡ trace_with (get_or (runs_in runs.now) place []) }
 {
-    let mut back = [0; 128];
-    let mut from = 128;
+    let mut path = ArrayVec::new();
     let mut next = runs.get(place);
     while let Some(run) = next {
-        from -= 1;
-        back[from] = run.last;
+        path.push(run.last);
         next = run.parent.and_then(|place| runs.get(place as usize));
     }
-    let mut states = [0; 128];
-    states[..128 - from].copy_from_slice(&back[from..]);
-    Trace {
-        length: 128 - from,
-        states,
-    }
+    path.reverse();
+    Trace { path }
 }

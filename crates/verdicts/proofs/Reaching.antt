@@ -2,10 +2,11 @@
 -- is bad or no row is left. From the laws of walks and the meaning of the verdict. Assumes nothing.
 use Prim.Native.Nat.{ℕ, ◌+◌, ◌-◌, ◌*◌, ◌≤◌, ◌<◌}
 use mathlib.Core.Path.{◌≡◌, refl, sym, ap, subst, ◌∙◌}
-use mathlib.Core.Logic.{⊎_elim}
+use mathlib.Core.Logic.{◌≢◌, ⊎_elim}
 use mathlib.Core.Bool.{Bool, true, false, not, ◌&&◌, ◌||◌, or-false, and-eq-true_iff, true≢false}
 use mathlib.Core.List.{List}
 use Rattle.std.specs.Prelude.{Option, Some, None, MatchOption}
+use Rattle.std.specs.List.{AllWithin, HoldsAt}
 use mathlib.Mathlib.Data.Bool.Basic.{or_inl, or_inr, eq-false_of_not-eq-true}
 use native.Mathlib.Decide.{ℕ_discrete}
 use native.Mathlib.Omega.{arith}
@@ -13,8 +14,8 @@ use borrow.Author.Tests.{eqb-true, eq-eqb, ne_eqb, not-true, not-false}
 use mir.Val.{bool_byte}
 use lib.Bits.{bit_and, bit_or}
 use lib.Dec.{eqb}
-use lib.ListN.{length, get_or, set, take, drop, length-set, length-take, length-drop}
-use lib.Seq.{get_or-set_same, get_or-set_other, get_or-take, get_or-drop}
+use lib.ListN.{length, get_or, set, take, drop, length-set, length-drop}
+use lib.Seq.{get_or-set_same, get_or-set_other, get_or-drop, take_all}
 use Rattle.sets.specs.Laws.Choice.{either}
 use Rattle.systems.specs.Least.{least}
 use Rattle.systems.specs.Laws.Least.{any_intro, any_elim}
@@ -24,9 +25,11 @@ use Rattle.systems.specs.System.{System, Reached}
 use Rattle.systems.specs.Laws.Walks.{walk_last, reached_start, reached_step, reached_least}
 use Rattle.systems.specs.Verdict.{holds}
 use Rattle.systems.specs.Laws.Holds.{holds_iff}
-use Rattle.systems.specs.declared.tables.Tables.{Tables}
-use Rattle.systems.specs.ByTables.{mark_at, step_by, start_by, system_by, judge_by}
-use Rattle.verdicts.specs.Marks.{mark_of, has_bits, any_with, is_open, IsOpen, NoneOpen, FirstMarks, RowMarked, RowWalked}
+use Rattle.systems.specs.declared.systems.Systems.{Systems}
+use Rattle.systems.specs.ByTables.{mark_at, step_by, system_by, judge_by}
+use Rattle.systems.specs.BySystems.{row_among, step_among, start_among, system_among, judge_among}
+use Rattle.systems.specs.Laws.Rows.{length_row, row_at}
+use Rattle.verdicts.specs.Marks.{mark_of, has_bits, any_with, is_open, IsOpen, IsNextOpen, NoneOpen, FirstMarks, RowMarked, RowWalked}
 
 -- ---- one mark
 
@@ -108,26 +111,46 @@ module _ {f : ℕ → ℕ} {before after : List ℕ} {t : ℕ} (l : Passed f bef
       at k g (no i) = get_or-set_other after t k v 0 i ∙ l.done k (omega arith)
 
 -- A row is a part of the masks.
-pub row_walked : (masks : List ℕ) (states rules s : ℕ) {before after : List ℕ} → 128 * s + states ≤ length masks
-    → RowMarked (take (128 * s + states - 128 * s) (drop (128 * s) masks)) rules (set before s (bit_or (get_or before s 0) 2)) after
-    → RowWalked masks states rules s before after
+pub row_walked : (systems : Systems) (rules s : ℕ) {before after : List ℕ} → s < systems.tables.now.states
+    → RowMarked (row_among systems s) rules (set before s (bit_or (get_or before s 0) 2)) after → RowWalked systems rules s before after
 unfolding step_by
-row_walked masks states rules s {before} {after} h r = record {
+row_walked systems rules s {before} {after} h r = record {
   size = r.size ∙ length-set before s (bit_or (get_or before s 0) 2);
   at = λ t g.
-      r.at t (simp (length-take, length-drop) (omega arith))
+      r.at t (omega (arith, length_row systems.masks.now systems.tables.now s systems.has_room (omega arith)))
       ∙ ap (λ m. bit_or (get_or (set before s (bit_or (get_or before s 0) 2)) t 0) (bool_byte (eqb (bit_and m rules) rules)))
-      (get_or-take (128 * s + states - 128 * s) (drop (128 * s) masks) t 0 (omega arith) ∙ get_or-drop (128 * s) masks t 0);
+      (row_at systems.masks.now systems.tables.now s t g);
 }
 
--- From s on, a state more is not open.
-pub closed_next : (marks : List ℕ) (s t : ℕ) → ((k : ℕ) → s ≤ k → k < t → is_open (get_or marks k 0) ≡ false) → is_open (get_or marks t 0) ≡ false
-    → (k : ℕ) → s ≤ k → k < t + 1 → is_open (get_or marks k 0) ≡ false
-closed_next marks s t closed here k h g = at (ℕ_discrete k t)
-  where
-    at : Dec (k ≡ t) → is_open (get_or marks k 0) ≡ false
-    at (yes i) = rw i here
-    at (no i) = closed k h (omega arith)
+-- The marks from s on, of which the first so many are not open.
+module _ (marks : List ℕ) (s : ℕ) where
+  closed_from : (n : ℕ) → AllWithin (λ (m : ℕ). bit_and m 3 ≢ 1) (drop s marks) 0 n
+      → (k : ℕ) → s ≤ k → k < s + n → is_open (get_or marks k 0) ≡ false
+  unfolding is_open
+  closed_from n all k h g =
+      let at : s + (k - s) ≡ k = omega arith in
+      ap (λ m. is_open m) (sym (rw at at (get_or-drop s marks (k - s) 0))) ∙ ne_eqb _ 1 (all (k - s) 0 (omega arith) (omega arith))
+
+  abbrev pub rest : List ℕ
+  rest = take (length marks - s) (drop s marks)
+
+  whole : rest ≡ drop s marks
+  whole = take_all (length marks - s) (drop s marks) (omega (arith, length-drop s marks))
+
+  pub none_open : s ≤ length marks → AllWithin (λ (m : ℕ). bit_and m 3 ≢ 1) rest 0 (length rest) → NoneOpen marks s
+  none_open l all = record { passed = λ k h g. closed_from (length (drop s marks)) (rw whole at all) k h (omega (arith, length-drop s marks)) }
+
+  pub first_open : {n : ℕ} → (n < length rest) × HoldsAt (λ (m : ℕ). bit_and m 3 ≡ 1) rest n × AllWithin (λ (m : ℕ). bit_and m 3 ≢ 1) rest 0 n
+      → IsNextOpen marks s (s + n)
+  unfolding is_open
+  first_open {n} f = let g = rw whole at f in record {
+    after = omega arith;
+    here = record {
+      within = omega (arith, length-drop s marks, g.0);
+      passes = ap (λ m. is_open m) (sym (get_or-drop s marks n 0)) ∙ eq-eqb _ 1 (g.1 0);
+    };
+    passed = closed_from n g.2;
+  }
 
 -- ---- the states of a system
 
@@ -143,11 +166,11 @@ pub record Spread (M : System) (marks : List ℕ) : Type 0 where
   pub good : (s : ℕ) → s < M.size → walked s ≡ true → M.bad s ≡ false
   pub closed : (s t : ℕ) → s < M.size → t < M.size → walked s ≡ true → M.step s t ≡ true → reached t ≡ true
 
-pub spread_first : (masks : List ℕ) (tables : Tables) (set : ℕ) {marks : List ℕ} → FirstMarks masks tables set marks
-    → Spread (system_by masks tables set) marks
+pub spread_first : (systems : Systems) (set : ℕ) {marks : List ℕ} → FirstMarks systems set marks
+    → Spread (system_among systems set) marks
 unfolding system_by
-spread_first masks tables set f = record {
-  reached = start_by masks tables set;
+spread_first systems set f = record {
+  reached = start_among systems set;
   walked = λ _. false;
   size = f.size;
   at = f.at;
@@ -213,103 +236,103 @@ unfolding is_walked
 rows_left states marks = states - count states (λ t. is_walked (get_or marks t 0))
 
 -- The row of one more state is walked, which is reached.
-module _ (masks : List ℕ) (tables : Tables) (rules s : ℕ) {before after : List ℕ}
-    (x : Spread (system_by masks tables rules) before)
-    (h : s < tables.states)
+module _ (systems : Systems) (rules s : ℕ) {before after : List ℕ}
+    (x : Spread (system_among systems rules) before)
+    (h : s < systems.tables.now.states)
     (left : is_open (get_or before s 0) ≡ true)
     (unhit : any_with 5 before ≡ false)
-    (w : RowWalked masks tables.states rules s before after)
+    (w : RowWalked systems rules s before after)
   where
-    spread_next : Spread (system_by masks tables rules) after
+    spread_next : Spread (system_among systems rules) after
     unfolding system_by
     spread_next = record {
-      reached = λ t. x.reached t || step_by masks rules s t;
+      reached = λ t. x.reached t || step_among systems rules s t;
       walked = λ t. x.walked t || eqb t s;
       size = w.size ∙ x.size;
-      at = λ t g. w.at t g ∙ ap (λ m. bit_or m (bool_byte (step_by masks rules s t))) (old t g (ℕ_discrete t s))
-          ∙ mark_reached (x.reached t) (x.walked t || eqb t s) (mark_at tables.bad t) (step_by masks rules s t);
+      at = λ t g. w.at t g ∙ ap (λ m. bit_or m (bool_byte (step_among systems rules s t))) (old t g (ℕ_discrete t s))
+          ∙ mark_reached (x.reached t) (x.walked t || eqb t s) (mark_at systems.tables.now.bad t) (step_among systems rules s t);
       runs = λ t g e.
           ⊎_elim (λ r. x.runs t g r) (λ r. reached_step (x.runs s h (reached_here x s h left).0) g r)
-          (either (x.reached t) (step_by masks rules s t) e);
-      begun = λ t g e. or_inl (x.reached t) (step_by masks rules s t) (x.begun t g e);
+          (either (x.reached t) (step_among systems rules s t) e);
+      begun = λ t g e. or_inl (x.reached t) (step_among systems rules s t) (x.begun t g e);
       good = λ u g e.
           ⊎_elim (x.good u g) (λ o. spread_unhit x unhit u g (subst (λ u. x.reached u ≡ true) (sym (eqb-true u s o)) (reached_here x s h left).0))
           (either (x.walked u) (eqb u s) e);
       closed = λ u t g l e f.
           ⊎_elim
-          (λ o. or_inl (x.reached t) (step_by masks rules s t) (x.closed u t g l o f))
-          (λ o. or_inr (x.reached t) (step_by masks rules s t) (subst (λ u. step_by masks rules u t ≡ true) (eqb-true u s o) f))
+          (λ o. or_inl (x.reached t) (step_among systems rules s t) (x.closed u t g l o f))
+          (λ o. or_inr (x.reached t) (step_among systems rules s t) (subst (λ u. step_among systems rules u t ≡ true) (eqb-true u s o) f))
           (either (x.walked u) (eqb u s) e);
     }
       where
-        old : (t : ℕ) → t < tables.states → Dec (t ≡ s)
-            → get_or (set before s (bit_or (get_or before s 0) 2)) t 0 ≡ mark_of (x.reached t) (x.walked t || eqb t s) (mark_at tables.bad t)
+        old : (t : ℕ) → t < systems.tables.now.states → Dec (t ≡ s)
+            → get_or (set before s (bit_or (get_or before s 0) 2)) t 0 ≡ mark_of (x.reached t) (x.walked t || eqb t s) (mark_at systems.tables.now.bad t)
         old t g (yes i) =
             rw i
             (get_or-set_same before s (bit_or (get_or before s 0) 2) 0 (omega (arith, x.size))
             ∙ ap (λ m. bit_or m 2) (x.at s h)
-            ∙ (bits_say (x.reached s) (x.walked s) (mark_at tables.bad s)).walk
-            ∙ ap (λ w. mark_of (x.reached s) w (mark_at tables.bad s)) (sym (or_inr (x.walked s) (eqb s s) (eq-eqb s s refl))))
+            ∙ (bits_say (x.reached s) (x.walked s) (mark_at systems.tables.now.bad s)).walk
+            ∙ ap (λ w. mark_of (x.reached s) w (mark_at systems.tables.now.bad s)) (sym (or_inr (x.walked s) (eqb s s) (eq-eqb s s refl))))
         old t g (no i) =
             get_or-set_other before s t (bit_or (get_or before s 0) 2) 0 i
             ∙ x.at t g
-            ∙ ap (λ w. mark_of (x.reached t) w (mark_at tables.bad t)) (rw (ne_eqb t s i) (sym (or-false (x.walked t))))
+            ∙ ap (λ w. mark_of (x.reached t) w (mark_at systems.tables.now.bad t)) (rw (ne_eqb t s i) (sym (or-false (x.walked t))))
 
     -- One row less is left.
-    spread_less : rows_left tables.states after < rows_left tables.states before
+    spread_less : rows_left systems.tables.now.states after < rows_left systems.tables.now.states before
     unfolding system_by spread_next rows_left
     spread_less =
         omega (
           arith,
           walked_rows x,
           walked_rows spread_next,
-          count_le tables.states spread_next.walked,
-          count_more x.walked spread_next.walked (λ k e. or_inl (x.walked k) (eqb k s) e) tables.states s h (reached_here x s h left).1
+          count_le systems.tables.now.states spread_next.walked,
+          count_more x.walked spread_next.walked (λ k e. or_inl (x.walked k) (eqb k s) e) systems.tables.now.states s h (reached_here x s h left).1
               (or_inr (x.walked s) (eqb s s) (eq-eqb s s refl)),
         )
 
 -- ---- the judgement
 
 -- No state is bad.
-pub none_bad : (masks : List ℕ) (tables : Tables) (rules : ℕ) {marks : List ℕ} → FirstMarks masks tables rules marks
-    → any_with 4 marks ≡ false → judge_by masks tables rules ≡ true
+pub none_bad : (systems : Systems) (rules : ℕ) {marks : List ℕ} → FirstMarks systems rules marks
+    → any_with 4 marks ≡ false → judge_among systems rules ≡ true
 unfolding any_with judge_by system_by
-none_bad masks tables rules {marks} f none = (holds_iff M).1 (record { good = λ s r. good s (subst (λ t. t < M.size) r.ends (walk_last r.path r.run)) })
+none_bad systems rules {marks} f none = (holds_iff M).1 (record { good = λ s r. good s (subst (λ t. t < M.size) r.ends (walk_last r.path r.run)) })
   where
     M : System
-    M = system_by masks tables rules
+    M = system_among systems rules
 
     good : (s : ℕ) → s < M.size → M.bad s ≡ false
     good s h =
-        sym (bits_say (start_by masks tables rules s) false (mark_at tables.bad s)).bad
+        sym (bits_say (start_among systems rules s) false (mark_at systems.tables.now.bad s)).bad
         ∙ ap (has_bits 4) (sym (f.at s h))
         ∙ eq-false_of_not-eq-true (λ e. true≢false (sym (any_intro (length marks) (λ t. has_bits 4 (get_or marks t 0)) s (omega (arith, f.size)) e) ∙ none))
 
 -- The marks are spread, and the next state is one to walk from, if there is one.
-pub record Judging (masks : List ℕ) (tables : Tables) (rules : ℕ) (marks : List ℕ) (found : Option ℕ) : Type 0 where
-  pub spread : Spread (system_by masks tables rules) marks
+pub record Judging (systems : Systems) (rules : ℕ) (marks : List ℕ) (found : Option ℕ) : Type 0 where
+  pub spread : Spread (system_among systems rules) marks
   pub next : MatchOption found (NoneOpen marks 0) (IsOpen marks)
 
-module _ {masks : List ℕ} {tables : Tables} {rules : ℕ} {before : List ℕ} where
+module _ {systems : Systems} {rules : ℕ} {before : List ℕ} where
   -- A reached state is bad.
-  pub judging_hit : {found : Option ℕ} → Judging masks tables rules before found → any_with 5 before ≡ true → judge_by masks tables rules ≡ false
+  pub judging_hit : {found : Option ℕ} → Judging systems rules before found → any_with 5 before ≡ true → judge_among systems rules ≡ false
   unfolding judge_by system_by
   judging_hit j e = spread_hit j.spread e
 
   -- No row is left.
-  pub judging_ends : Judging masks tables rules before None → judge_by masks tables rules ≡ true
+  pub judging_ends : Judging systems rules before None → judge_among systems rules ≡ true
   unfolding judge_by system_by
   judging_ends j = spread_all j.spread (λ k h. j.next.passed k (omega arith) (omega (arith, j.spread.size)))
 
   -- The row of state s is walked.
-  module _ {s : ℕ} (j : Judging masks tables rules before (Some s)) (unhit : any_with 5 before ≡ false)
-      {after : List ℕ} (w : RowWalked masks tables.states rules s before after) where
-    pub judging_state : s < tables.states
+  module _ {s : ℕ} (j : Judging systems rules before (Some s)) (unhit : any_with 5 before ≡ false)
+      {after : List ℕ} (w : RowWalked systems rules s before after) where
+    pub judging_state : s < systems.tables.now.states
     unfolding system_by
     judging_state = omega (arith, j.next.within, j.spread.size)
 
-    pub judging_next : {found : Option ℕ} → MatchOption found (NoneOpen after 0) (IsOpen after) → Judging masks tables rules after found
-    judging_next n = record { spread = spread_next masks tables rules s j.spread judging_state j.next.passes unhit w; next = n }
+    pub judging_next : {found : Option ℕ} → MatchOption found (NoneOpen after 0) (IsOpen after) → Judging systems rules after found
+    judging_next n = record { spread = spread_next systems rules s j.spread judging_state j.next.passes unhit w; next = n }
 
-    pub judging_less : rows_left tables.states after < rows_left tables.states before
-    judging_less = spread_less masks tables rules s j.spread judging_state j.next.passes unhit w
+    pub judging_less : rows_left systems.tables.now.states after < rows_left systems.tables.now.states before
+    judging_less = spread_less systems rules s j.spread judging_state j.next.passes unhit w

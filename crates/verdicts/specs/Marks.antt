@@ -4,8 +4,9 @@ use Rattle.std.specs.Prelude.{ℕ, ◌+◌, ◌*◌, ◌≤◌, ◌<◌, ◌≡�
 use mir.Val.{bool_byte}
 use Rattle.std.specs.Int.Bits.{bit_and, bit_or}
 use Rattle.systems.specs.Least.{any}
-use Rattle.systems.specs.declared.tables.Tables.{Tables}
-use Rattle.systems.specs.ByTables.{mark_at, step_by, start_by}
+use Rattle.systems.specs.declared.systems.Systems.{Systems}
+use Rattle.systems.specs.ByTables.{mark_at}
+use Rattle.systems.specs.BySystems.{step_among, start_among}
 
 -- The mark of a state.
 unfoldable pub mark_of : (reached walked bad : Bool) → ℕ
@@ -40,9 +41,10 @@ pub record NoneOpen (marks : List ℕ) (s : ℕ) : Type 0 where
   pub passed : (k : ℕ) → s ≤ k → k < length marks → is_open (get_or marks k 0) ≡ false
 
 -- The start states of the set are reached.
-pub record FirstMarks (masks : List ℕ) (t : Tables) (rules : ℕ) (marks : List ℕ) : Type 0 where
-  pub size : length marks ≡ t.states
-  pub at : (s : ℕ) → s < t.states → get_or marks s 0 ≡ mark_of (start_by masks t rules s) false (mark_at t.bad s)
+pub record FirstMarks (systems : Systems) (rules : ℕ) (marks : List ℕ) : Type 0 where
+  pub size : length marks ≡ systems.tables.now.states
+  pub at : (s : ℕ) → s < systems.tables.now.states
+      → get_or marks s 0 ≡ mark_of (start_among systems rules s) false (mark_at systems.tables.now.bad s)
 
 -- Marks of states with a step of the set are added, by a row of masks.
 pub record RowMarked (row : List ℕ) (rules : ℕ) (before after : List ℕ) : Type 0 where
@@ -50,7 +52,7 @@ pub record RowMarked (row : List ℕ) (rules : ℕ) (before after : List ℕ) : 
   pub at : (t : ℕ) → t < length row → get_or after t 0 ≡ bit_or (get_or before t 0) (bool_byte (eqb (bit_and (get_or row t 0) rules) rules))
 
 -- The row of state s has been walked.
-pub record RowWalked (masks : List ℕ) (states rules s : ℕ) (before after : List ℕ) : Type 0 where
+pub record RowWalked (systems : Systems) (rules s : ℕ) (before after : List ℕ) : Type 0 where
   pub size : length after ≡ length before
-  pub at : (t : ℕ) → t < states
-      → get_or after t 0 ≡ bit_or (get_or (set before s (bit_or (get_or before s 0) 2)) t 0) (bool_byte (step_by masks rules s t))
+  pub at : (t : ℕ) → t < systems.tables.now.states
+      → get_or after t 0 ≡ bit_or (get_or (set before s (bit_or (get_or before s 0) 2)) t 0) (bool_byte (step_among systems rules s t))

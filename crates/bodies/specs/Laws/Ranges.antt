@@ -1,11 +1,11 @@
 -- The ranges of what is read behind `init`: a refusal has a number of 1 to 8 and the line of a property or a rule, there are one to four properties, and
 -- each line begins within the text. From the definitions of `Body`, `Properties` and `Places`, by the ranges of single lines.
-use Rattle.std.specs.Prelude.{ℕ, zero, suc, ◌+◌, ◌≤◌, ◌<◌, ◌≡◌, refl, Bool, List, length, take, drop, Result, Ok, Err, IfOk}
+use Rattle.std.specs.Prelude.{ℕ, zero, suc, ◌+◌, ◌≤◌, ◌<◌, ◌≡◌, Bool, List, length, take, drop, Result, Ok, Err, IfOk}
 use Rattle.std.proofs.Common.{sym, ap, arith, subst, length-drop}
 use Rattle.sets.specs.Laws.Choice.{by_test}
 use Rattle.rule_lines.specs.declared.names.RuleParts.{RuleParts}
 use Rattle.refusals.specs.declared.refusal.Reason.{Reason}
-use Rattle.refusals.specs.Answers.{Answer, RefusedBy, Given}
+use Rattle.refusals.specs.Answers.{Answer, Given}
 use Rattle.lines.specs.declared.line.Said.{Said}
 use Rattle.lines.specs.Lines.{Line, line_of, starts_with, prop_key, count_line, state_line}
 use Rattle.rule_lines.specs.RuleLines.{is_taken, rule_line}
@@ -15,10 +15,10 @@ use Rattle.rule_lines.proofs.Laws.Heard.{RuleHeard, rule_fault, rule_said, rule_
 use Rattle.bodies.specs.declared.progress.LineStart.{LineStart}
 use Rattle.bodies.specs.declared.progress.LineRead.{LineRead}
 use Rattle.bodies.specs.declared.progress.Progress.{Progress}
-use Rattle.bodies.specs.Places.{Placed, Passes, EndsWithin, PartDue, PartsDue}
+use Rattle.bodies.specs.Places.{Placed, Passes, EndsWithin}
 use Rattle.bodies.specs.Properties.{after_line, leading, property_count}
 use Rattle.bodies.specs.Body.{behind_line, following, unless_refused, with_property, propertied, next_property, properties_read, with_rule, ruled, next_rule, rules_read}
-use Rattle.bodies.specs.Laws.Answered.{Answered, refused, given, IfGiven, given_of, one_given, answered_next, refused_at}
+use Rattle.bodies.specs.Laws.Answered.{Answered, refused, given, IfGiven, one_given, answered_next}
 
 -- ---- the places of the lines
 
@@ -131,28 +131,6 @@ rules_placed text n before h zero = given h
 rules_placed text n before h (suc i) =
     answered_next (rules_read text n before i) (next_rule text n i) (rules_placed text n before h i) (λ _ _ _. tt) λ r _ k.
     placed_rule i r k (rule_heard n (is_taken text (take i r.parts)) r.place.at (drop r.place.at text))
-
--- ---- the lines one after the other
-
--- the next line is due behind those that are read
-pub property_due : (text : List ℕ) (n : ℕ) (before : Progress) (properties j : ℕ) (r : Progress) → PartsDue text 4 properties before.place → j < properties
-    → properties_read text n before j ≡ Given r → PartDue text 4 j r.place
-property_due text n before properties j r h k q = record { part = omega (arith, h.few); place = given_of (properties_placed text n before h.place j) q }
-
-pub rule_due : (text : List ℕ) (n : ℕ) (before : Progress) (rules i : ℕ) (r : Progress) → PartsDue text 16 rules before.place → i < rules
-    → rules_read text n before i ≡ Given r → PartDue text 16 i r.place
-rule_due text n before rules i r h k q = record { part = omega (arith, h.few); place = given_of (rules_placed text n before h.place i) q }
-
--- a line that is refused refuses them all
-pub property_refuses : (text : List ℕ) (n : ℕ) (before : Progress) (j properties : ℕ) (r : Progress) (number line : ℕ) → j < properties
-    → properties_read text n before j ≡ Given r → next_property text n j r ≡ RefusedBy number line → properties_read text n before properties ≡ RefusedBy number line
-unfolding properties_read
-property_refuses text n before j properties r number line = refused_at (properties_read text n before) (next_property text n) (λ j. refl) j properties
-
-pub rule_refuses : (text : List ℕ) (n : ℕ) (before : Progress) (i rules : ℕ) (r : Progress) (number line : ℕ) → i < rules
-    → rules_read text n before i ≡ Given r → next_rule text n i r ≡ RefusedBy number line → rules_read text n before rules ≡ RefusedBy number line
-unfolding rules_read
-rule_refuses text n before i rules r number line = refused_at (rules_read text n before) (next_rule text n) (λ i. refl) i rules
 
 -- ---- how many property lines there can be
 

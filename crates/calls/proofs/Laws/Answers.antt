@@ -15,14 +15,16 @@ use Rattle.models.specs.Reading.{read_model, places_of}
 use Rattle.models.specs.Written.{described, model_in}
 use Rattle.models.proofs.Laws.Ranges.{ranges}
 use Rattle.models.proofs.Laws.Written.{described_count}
-use Rattle.semantics.specs.TablesOf.{Few}
+use Rattle.semantics.specs.Few.{Few}
+use Rattle.semantics.specs.declared.model_text.ModelText.{ModelText}
+use Rattle.semantics.specs.ByText.{described_by}
 use Rattle.systems.specs.System.{System}
 use Rattle.systems.specs.Verdict.{holds, trace_of}
 use Rattle.sorting.specs.declared.which.WhichList.{WhichList}
 use Rattle.calls.specs.declared.verdict.Verdict.TheVariants.{Holds, Broken}
 use Rattle.sorting.specs.declared.kinds.Kind.{Kind}
-use Rattle.calls.specs.Answers.{Gives, rules_in, states_in, system_in, trace_in, marks_in, pairs_in, list_in, kind_in, text_outcome, asked_outcome, judge_outcome, reached_outcome, list_outcome, given, after, verdict_of, judge_answer, judge_bytes, reached_answer, reached_bytes, list_answer, list_bytes, kind_answer}
-use Rattle.calls.specs.AsRead.{IsRead, places_in}
+use Rattle.calls.specs.Answers.{Gives, rules_in, states_in, system_in, trace_in, marks_in, pairs_in, list_in, kind_in, text_outcome, read_outcome, asked_outcome, judge_outcome, reached_outcome, list_outcome, given, after, verdict_of, judge_answer, judge_bytes, reached_answer, reached_bytes, list_answer, list_bytes, kind_answer}
+use Rattle.calls.specs.AsRead.{IsRead, IsModelOf, places_in}
 
 -- ---- what the reading of a text says
 
@@ -76,6 +78,11 @@ module _ {text : List ℕ} {m : Model} (r : IsRead text m) where
   pub set_read : {S : ℕ} → S < 2 ^ m.rules → S < 2 ^ rules_in text
   set_read h = rw rules_read_lem at h
 
+-- The same by the text with its model.
+module _ {text : List ℕ} {m : ModelText} (r : IsModelOf text m) where
+  pub text_model : described_by m ≡ model_in text
+  text_model = ap (λ t. described t m.model) r.same ∙ read_model_lem r.read
+
 -- ---- what a call gives
 
 module _ {A : Type 0} (a : A) where
@@ -87,7 +94,7 @@ module _ {A : Type 0} (a : A) where
   unfolding given
   given_refused e = rw e
 
-  -- A refusal comes from the outcome, with its number and line,
+  -- A refusal comes from the outcome, with its number and line.
   pub refusal_given : (o : Outcome) {number line : ℕ} → given o a ≡ RefusedBy number line → o ≡ Refused number line
   unfolding given
   refusal_given Accepted e = cc
@@ -95,12 +102,6 @@ module _ {A : Type 0} (a : A) where
       let p : n ≡ number = cc in
       let q : l ≡ line = cc in
       ap₂ Refused p q
-
-  -- and an answer is the one that an accepted call gives.
-  pub answer_given : (o : Outcome) {b : A} → given o a ≡ Given b → (o ≡ Accepted) × (a ≡ b)
-  unfolding given
-  answer_given Accepted e = (refl, cc)
-  answer_given (Refused n l) e = cc
 
 -- Two answers that are given alike are the same.
 pub one_given : {A : Type 0} {a b : A} → Given a ≡ Given b → a ≡ b
@@ -132,13 +133,28 @@ pub record ListNumbers (text sets lent : List ℕ) (o : Outcome) : Type 0 where
   pub by_none : text_outcome text ≡ Accepted → 2 * length sets ≤ length lent → o ≡ Accepted
 
 pub asked_numbers : (text : List ℕ) (S : ℕ) (new lent : List ℕ) → AskedNumbers text S new lent (asked_outcome text S new lent)
-unfolding asked_outcome
+unfolding asked_outcome read_outcome
 asked_numbers text S new lent = record {
   by_text = λ number line e. rw e;
   by_set = λ e h. rw (e, le-leb (2 ^ rules_in text) S h);
   by_length = λ e h l. rw (e, lt-leb (2 ^ rules_in text) S h, lt-ltb (length lent) (length new) l);
   by_none = λ e h l. rw (e, lt-leb (2 ^ rules_in text) S h, le-ltb (length lent) (length new) l);
 }
+
+-- A text and a set of its rules are refused by the text's number, or by 10.
+pub read_by_text : (text : List ℕ) (S : ℕ) {number line : ℕ} → text_outcome text ≡ Refused number line → read_outcome text S ≡ Refused number line
+unfolding read_outcome
+read_by_text text S e = rw e
+
+pub read_by_set : (text : List ℕ) (S : ℕ) → text_outcome text ≡ Accepted → 2 ^ rules_in text ≤ S → read_outcome text S ≡ Refused 10 0
+unfolding read_outcome
+read_by_set text S e h = rw (e, le-leb (2 ^ rules_in text) S h)
+
+-- Then a call that writes new bytes is refused so as well.
+pub asked_unread : (text : List ℕ) (S : ℕ) (new lent : List ℕ) {number line : ℕ} → read_outcome text S ≡ Refused number line
+    → asked_outcome text S new lent ≡ Refused number line
+unfolding asked_outcome
+asked_unread text S new lent e = rw e
 
 pub judge_numbers : (text : List ℕ) (S : ℕ) (lent : List ℕ) → AskedNumbers text S (trace_in text S) lent (judge_outcome text S lent)
 unfolding judge_outcome

@@ -17,7 +17,7 @@ use Rattle.semantics.specs.Meaning.{init_met}
 use Rattle.sorting.specs.declared.which.WhichList.{WhichList}
 use Rattle.sorting.specs.declared.kinds.Kind.{Kind}
 use Rattle.calls.specs.declared.verdict.Verdict.TheVariants.{Holds, Broken}
-use Rattle.calls.specs.Answers.{rules_in, states_in, system_in, trace_in, marks_in, pairs_in, list_in, kind_in, ◌or_else◌, refused_if, text_outcome, asked_outcome, judge_outcome, reached_outcome, list_outcome, given, verdict_of, judge_answer, reached_answer, list_answer, kind_answer}
+use Rattle.calls.specs.Answers.{rules_in, states_in, system_in, trace_in, marks_in, pairs_in, list_in, kind_in, ◌or_else◌, refused_if, text_outcome, read_outcome, asked_outcome, judge_outcome, reached_outcome, list_outcome, given, verdict_of, judge_answer, reached_answer, list_answer, kind_answer}
 use Rattle.preferences.specs.Answer.{order_outcome, one_core_outcome, one_core_in, one_core_answer}
 use Rattle.preferences.proofs.Laws.Answer.{one_core_fits}
 use Rattle.blaming.specs.Answer.{blame_in, log_outcome, init_outcome, blame_outcome, blame_answer}
@@ -55,11 +55,11 @@ or_else_numbered none n = n
 or_else_numbered (one l h g) n = one l h g
 
 asked_numbered : (text : List ℕ) (S : ℕ) (new lent : List ℕ) → Numbered (asked_outcome text S new lent)
-unfolding asked_outcome
+unfolding asked_outcome read_outcome
 asked_numbered text S new lent =
-    or_else_numbered (text_numbered text)
-    (or_else_numbered (refused_if_numbered (leb (2 ^ rules_in text) S) 10 (omega arith) (omega arith))
-    (refused_if_numbered (ltb (length lent) (length new)) 11 (omega arith) (omega arith)))
+    or_else_numbered
+    (or_else_numbered (text_numbered text) (refused_if_numbered (leb (2 ^ rules_in text) S) 10 (omega arith) (omega arith)))
+    (refused_if_numbered (ltb (length lent) (length new)) 11 (omega arith) (omega arith))
 
 list_numbered : (which : WhichList) (text lent : List ℕ) → Numbered (list_outcome which text lent)
 unfolding list_outcome

@@ -33,7 +33,7 @@ use Rattle.preferences.specs.Answer.{one_core_in, order_outcome, one_core_outcom
 use Rattle.logs.specs.Log.{is_log, blame_of}
 use Rattle.logs.proofs.Laws.Log.{blame_same}
 use Rattle.blaming.specs.Answer.{blame_in, log_outcome, init_outcome, blame_outcome, blame_answer}
-use Rattle.calls.specs.Answers.{rules_in, states_in, system_in, judge_in, trace_in, marks_in, pairs_in, list_in, kind_in, ◌or_else◌, refused_if, text_outcome, set_outcome, length_outcome, asked_outcome, judge_outcome, reached_outcome, list_outcome, given, after, verdict_of, judge_answer, judge_bytes, reached_answer, reached_bytes, list_answer, list_bytes, kind_answer}
+use Rattle.calls.specs.Answers.{rules_in, states_in, system_in, judge_in, trace_in, marks_in, pairs_in, list_in, kind_in, ◌or_else◌, refused_if, text_outcome, set_outcome, read_outcome, length_outcome, asked_outcome, judge_outcome, reached_outcome, list_outcome, given, after, verdict_of, judge_answer, judge_bytes, reached_answer, reached_bytes, list_answer, list_bytes, kind_answer}
 use Rattle.codremif.specs.Demand2.{Demand2}
 use Rattle.codremif.specs.PowerUp.{MeetsAtStart, system_by_init, starts_written_in, SameAnswers, PowerUp}
 use Rattle.codremif.specs.Laws.Demand2.{judging_meets_demand2}
@@ -79,9 +79,9 @@ module _ (text first : List ℕ) (outcome : text_outcome text ≡ text_outcome f
     core_same order = ap₂ (λ R h. one_core_of R h order) rules verdicts_same
 
     asked_same : (S : ℕ) {new new₁ : List ℕ} → new ≡ new₁ → (lent : List ℕ) → asked_outcome text S new lent ≡ asked_outcome first S new₁ lent
-    unfolding asked_outcome set_outcome
+    unfolding asked_outcome read_outcome set_outcome
     asked_same S p lent =
-        ap₂ ◌or_else◌ outcome (ap₂ (λ R new. refused_if (leb (2 ^ R) S) 10 or_else length_outcome new lent) rules p)
+        ap₂ ◌or_else◌ (ap₂ ◌or_else◌ outcome (ap (λ R. refused_if (leb (2 ^ R) S) 10) rules)) (ap (λ new. length_outcome new lent) p)
 
     judge_same : (S : ℕ) (lent : List ℕ) → judge_outcome text S lent ≡ judge_outcome first S lent
     unfolding judge_outcome

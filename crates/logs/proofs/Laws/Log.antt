@@ -3,7 +3,7 @@
 use Rattle.std.specs.Prelude.{ℕ, suc, ◌+◌, ◌≤◌, ◌<◌, ◌≡◌, ◌↔◌, Bool, true, false, ◌||◌, List, Option, Some, None, IfSome, IfNone, cond, leb, ltb, length, get_or}
 use Rattle.std.specs.List.{position_or_len}
 use Rattle.std.proofs.Math.Path.{refl, sym, ap, ap₂}
-use Rattle.std.proofs.Common.{◌∙◌, arith, ltb-true, ltb-false, lt-ltb, le-leb}
+use Rattle.std.proofs.Common.{◌∙◌, arith, ltb-true, ltb-false, lt-ltb, le-ltb, le-leb}
 use Rattle.std.proofs.Math.Logic.{⊎_elim}
 use Rattle.std.proofs.Math.Bool.{not, or-false, or_assoc, and-eq-true_iff}
 use Rattle.std.proofs.lemmas.List.Sums.{position_or_len_is, prefix_len-le-length, fails_before_first, passes_at_first}
@@ -49,11 +49,11 @@ module _ (start_met : ℕ → ℕ → Bool) (step_met : ℕ → ℕ → ℕ → 
   broken_start i e = rw e
 
 -- The place of a bad state that has none before it, if there is one.
-record FirstBad (bad : ℕ → Bool) (log : List ℕ) (breach : Option ℕ) : Type 0 where
-  within : IfSome breach (λ place. place < length log)
-  breaks : IfSome breach (λ place. bad (get_or log place 0) ≡ true)
-  before : IfSome breach (λ place. (k : ℕ) → k < place → bad (get_or log k 0) ≡ false)
-  none : IfNone breach ((k : ℕ) → k < length log → bad (get_or log k 0) ≡ false)
+pub record FirstBad (bad : ℕ → Bool) (log : List ℕ) (breach : Option ℕ) : Type 0 where
+  pub within : IfSome breach (λ place. place < length log)
+  pub breaks : IfSome breach (λ place. bad (get_or log place 0) ≡ true)
+  pub before : IfSome breach (λ place. (k : ℕ) → k < place → bad (get_or log k 0) ≡ false)
+  pub none : IfNone breach ((k : ℕ) → k < length log → bad (get_or log k 0) ≡ false)
 
 module _ (R : ℕ) (start_met : ℕ → ℕ → Bool) (step_met : ℕ → ℕ → ℕ → Bool) (bad : ℕ → Bool) (log : List ℕ) where
   -- So it is one of the blamed ones wherever a part of it fails,
@@ -106,6 +106,16 @@ module _ (R : ℕ) (start_met : ℕ → ℕ → Bool) (step_met : ℕ → ℕ �
     before = place_first.before;
     none = place_first.none;
   }
+
+-- And where that is said of a place, or of none, it is what is found.
+pub is_breach_place : (bad : ℕ → Bool) (log : List ℕ) (breach : Option ℕ) → FirstBad bad log breach → breach ≡ breach_place bad log
+unfolding breach_place
+is_breach_place bad log (Some place) f =
+    let found : position_or_len bad log ≡ place = position_or_len_is bad log place 0 (omega (arith, f.within)) f.before (λ _. f.breaks) in
+    rw (found, lt-ltb place (length log) f.within)
+is_breach_place bad log None f =
+    let found : position_or_len bad log ≡ length log = position_or_len_is bad log (length log) 0 (omega arith) f.none (λ h. absurd (omega arith)) in
+    rw (found, le-ltb (length log) (length log) (omega arith))
 
 -- Bad states that agree on the log have the same first place.
 position_same : (bad bad₁ : ℕ → Bool) (log : List ℕ) → ((k : ℕ) → k < length log → bad (get_or log k 0) ≡ bad₁ (get_or log k 0))

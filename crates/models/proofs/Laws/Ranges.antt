@@ -1,7 +1,7 @@
 -- The ranges of what is read: of any text N is at most 7, R at most 16, there are at most 4 properties, and a refusal has a number of 1 to 9 and a line
 -- of 1 to 24. From the definitions of `Reading`, by the ranges of single lines and of the lines behind `init`.
 use Rattle.std.specs.Prelude.{ℕ, ◌+◌, ◌≤◌, ◌≡◌, refl, List, drop}
-use Rattle.std.proofs.Common.{arith}
+use Rattle.std.proofs.Common.{ap, arith}
 use Rattle.refusals.specs.Answers.{Refused, Answer, RefusedBy, outcome_of}
 use Rattle.lines.specs.Lines.{Line, vars_key, rules_key, init_key}
 use Rattle.lines.proofs.Laws.Heard.{Heard, fault, said, count_heard, state_heard}
@@ -45,11 +45,11 @@ refused_ranges number line h = record {
 
 -- a line with a number of 1 to 24, and what follows it
 following_ranges : (p : LineStart) {s : List ℕ} {most : ℕ} {l : Line ℕ} (next : LineRead ℕ → Answer Model) → 1 ≤ p.line → p.line ≤ 24 → Heard s most l
-    → ((h : LineRead ℕ) → h.value ≤ most → h.place.line ≡ p.line + 1 → Ranges (next h)) → Ranges (unless_refused (following p l) next)
+    → ((h : LineRead ℕ) (bytes : ℕ) → h.place ≡ behind_line p bytes → h.value ≤ most → Ranges (next h)) → Ranges (unless_refused (following p l) next)
 unfolding following unless_refused behind_line
 following_ranges p next a b (fault number w) f =
     refused_ranges number p.line (record { least = w.at_least; most = omega (arith, w.at_most); first_line = a; last_line = b })
-following_ranges p next a b (said {v} {bytes} h) f = f (record { value = v; place = behind_line p bytes }) h.small refl
+following_ranges p next a b (said {v} {bytes} h) f = f (record { value = v; place = behind_line p bytes }) bytes refl h.small
 
 -- the property lines and the rule lines
 body_range : (text : List ℕ) (vars rules : ℕ) (p : LineStart) (properties : ℕ) → PartRange p.line (rules + properties) (body_read text vars rules p properties)
@@ -77,9 +77,12 @@ finished_ranges text vars rules init properties first body v u w a b h =
 pub ranges : (text : List ℕ) → Ranges (read_model text)
 unfolding read_model on_line behind_init
 ranges text =
-    following_ranges text_start _ (omega arith) (omega arith) (count_heard vars_key 7 text) λ vars v a.
-    following_ranges vars.place _ (omega arith) (omega arith) (count_heard rules_key 16 (drop vars.place.at text)) λ rules u b.
-    following_ranges rules.place _ (omega arith) (omega arith) (state_heard init_key vars.value (drop rules.place.at text)) λ init _ c.
+    following_ranges text_start _ (omega arith) (omega arith) (count_heard vars_key 7 text) λ vars _ second v.
+    let a : vars.place.line ≡ 2 = ap (λ (p : LineStart). p.line) second in
+    following_ranges vars.place _ (omega arith) (omega arith) (count_heard rules_key 16 (drop vars.place.at text)) λ rules _ third u.
+    let b : rules.place.line ≡ vars.place.line + 1 = ap (λ (p : LineStart). p.line) third in
+    following_ranges rules.place _ (omega arith) (omega arith) (state_heard init_key vars.value (drop rules.place.at text)) λ init _ fourth _.
+    let c : init.place.line ≡ rules.place.line + 1 = ap (λ (p : LineStart). p.line) fourth in
     let properties : ℕ = property_count (drop init.place.at text) in
     finished_ranges text vars.value rules.value _ properties init.place.line _ v u (properties_le (drop init.place.at text)) (omega arith) (omega arith)
     (body_range text vars.value rules.value init.place properties)

@@ -102,12 +102,13 @@ pub data RightOutcome (text : List ℕ) : Outcome → Type 0 where
 
 following_right : (text : List ℕ) (p : LineStart) (Says : ℕ → Type 0) (next : LineRead ℕ → Answer Model) {l : Line ℕ} → Stands text p → Clear text p.line
     → LineJudged text p.line (drop p.at text) Says l
-    → ((h : LineRead ℕ) → Says h.value → Stands text h.place → h.place.line ≡ p.line + 1 → Clear text h.place.line → RightOutcome text (outcome_of (next h)))
+    → ((h : LineRead ℕ) (bytes : ℕ) → h.place ≡ behind_line p bytes → Says h.value → Stands text h.place → Clear text h.place.line → RightOutcome text (outcome_of (next h)))
     → RightOutcome text (outcome_of (unless_refused (following p l) next))
 unfolding following unless_refused behind_line
 following_right text p Says next st clear (line_refused {number} f least some) go = first_fits (first_on text number p.line clear f least)
 following_right text p Says next st clear (line_passed {v} s none) go =
-    go (record { value = v; place = behind_line p (line_length (drop p.at text) + 1) }) s (stands_next st) refl (clear_more text p.line clear none)
+    let bytes : ℕ = line_length (drop p.at text) + 1 in
+    go (record { value = v; place = behind_line p bytes }) bytes refl s (stands_next st) (clear_more text p.line clear none)
 
 -- ---- the names of the rule lines
 
@@ -223,7 +224,7 @@ module _ (text : List ℕ) (n R : ℕ) (isN : IsN text n) (isR : IsR text R) (be
           let l : first_rule_line text ≤ j = a.rule.least in
           let k : j - first_rule_line text < i = omega arith in
           let e : j ≡ first_rule_line text + (j - first_rule_line text) = omega arith in
-          taken_back text name r.parts i (omega (arith, u.upto.room.parts, isR.range.at_most)) t (j - first_rule_line text) k
+          taken_back text name r.parts i t (j - first_rule_line text) k (omega (arith, k, u.upto.room.parts, isR.range.at_most))
           (one_name (named_line i r b u (j - first_rule_line text) k).1 (subst (λ x. HasName text x name d) e a));
     }
 
@@ -288,13 +289,13 @@ pub right_outcome : (text : List ℕ) → RightOutcome text (outcome_of (read_mo
 unfolding read_model on_line behind_init after_lines
 right_outcome text =
     let s₁ : Stands text text_start = record { least = omega arith; begins = refl } in
-    following_right text text_start _ _ s₁ (clear_start text) (count_judged text 1 text refl vars_key 7 vars_line) λ vars isN s₂ l₂ c₂.
-    let two : vars.place.line ≡ 2 = omega arith in
+    following_right text text_start _ _ s₁ (clear_start text) (count_judged text 1 text refl vars_key 7 vars_line) λ vars _ second isN s₂ c₂.
+    let two : vars.place.line ≡ 2 = ap (λ (p : LineStart). p.line) second in
     following_right text vars.place _ _ s₂ c₂
-    (count_judged text vars.place.line (drop vars.place.at text) s₂.begins rules_key 16 (subst (λ k. CountLine k rules_key 16) (sym two) rules_line)) λ rules isR s₃ l₃ c₃.
-    let three : rules.place.line ≡ 3 = omega arith in
+    (count_judged text vars.place.line (drop vars.place.at text) s₂.begins rules_key 16 (subst (λ k. CountLine k rules_key 16) (sym two) rules_line)) λ rules _ third isR s₃ c₃.
+    let three : rules.place.line ≡ 3 = ap (λ (p : LineStart). p.line) third ∙ ap (λ n. n + 1) two in
     following_right text rules.place _ _ s₃ c₃
-    (state_judged text rules.place.line (drop rules.place.at text) s₃.begins vars.value isN init_key (subst (λ k. StateLine text k init_key) (sym three) init_line)) λ init _ s₄ l₄ c₄.
-    let four : init.place.line ≡ 4 = omega arith in
+    (state_judged text rules.place.line (drop rules.place.at text) s₃.begins vars.value isN init_key (subst (λ k. StateLine text k init_key) (sym three) init_line)) λ init _ fourth _ s₄ c₄.
+    let four : init.place.line ≡ 4 = ap (λ (p : LineStart). p.line) fourth ∙ ap (λ n. n + 1) three in
     finished_right text vars.value rules.value _ _ (subst (λ k. GivesCount text k rules_key 16 rules.value) two isR)
     (lines_judged text vars.value rules.value isN (subst (λ k. GivesCount text k rules_key 16 rules.value) two isR) init.place s₄ four (subst (Clear text) four c₄))

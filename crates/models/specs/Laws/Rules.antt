@@ -37,17 +37,17 @@ module _ (text name : List ℕ) where
   not_taken [] (suc i) f = refl
   not_taken (p ∷ parts) (suc i) f = ap₂ ◌||◌ (same_false (name_of text p) name (f 0 (omega arith))) (not_taken parts i (λ j h. f (suc j) (omega arith)))
 
-  pub taken_back : (parts : List RuleParts) (i : ℕ) → i ≤ length parts → is_taken text (take i parts) name ≡ false
-      → (j : ℕ) → j < i → name_of text (get_or parts j no_parts) ≢ name
+  pub taken_back : (parts : List RuleParts) (i : ℕ) → is_taken text (take i parts) name ≡ false
+      → (j : ℕ) → j < i → j < length parts → name_of text (get_or parts j no_parts) ≢ name
   unfolding is_taken
-  taken_back parts zero b e j h = absurd (omega arith)
-  taken_back [] (suc i) b e j h = absurd (omega arith)
-  taken_back (p ∷ parts) (suc i) b e zero h =
+  taken_back parts zero e j h b = absurd (omega arith)
+  taken_back [] (suc i) e j h b = absurd (omega arith)
+  taken_back (p ∷ parts) (suc i) e zero h b =
       let f = (or-eq-false-eq-eq-false-and-eq-false (same (name_of text p) name) (is_taken text (take i parts) name)).0 e in
       λ q. false≢true (sym f.0 ∙ same_true (name_of text p) name q)
-  taken_back (p ∷ parts) (suc i) b e (suc j) h =
+  taken_back (p ∷ parts) (suc i) e (suc j) h b =
       let f = (or-eq-false-eq-eq-false-and-eq-false (same (name_of text p) name) (is_taken text (take i parts) name)).0 e in
-      taken_back parts i (omega arith) f.1 j (omega arith)
+      taken_back parts i f.1 j (omega arith) (omega arith)
 
   pub taken_there : (parts : List RuleParts) (i : ℕ) → is_taken text (take i parts) name ≡ true → (j : ℕ) × (j < i) × (name_of text (get_or parts j no_parts) ≡ name)
   unfolding is_taken
@@ -212,8 +212,8 @@ rules_back text n before room b (suc i) h r q =
     let v = unruled i last (rule_line n taken last.place.at s) w.2 in
     let a = (rule_reads n b taken last.place.at).back s v.0 v.1 v.2 in
     let rule = a.0 in
-    let others = taken_back text rule.name last.parts i (omega (arith, found.upto.room.parts)) a.1.1 in
-    let new : New rs rule = λ j k e. others j (omega (arith, found.count)) ((found.upto.located j k).name_is ∙ e) in
+    let others = taken_back text rule.name last.parts i a.1.1 in
+    let new : New rs rule = λ j k e. others j (omega (arith, found.count)) (omega (arith, found.count, found.upto.room.parts)) ((found.upto.located j k).name_is ∙ e) in
     let next = upto_next text n before rs last rule a.2.0 b found.upto (omega (arith, found.count)) a.1.0 new a.2.1 in
     let same : behind_rule (length rs) last rule ≡ r = one_given (sym next.0 ∙ ap (λ m. next_rule text n m last) found.count ∙ w.2) in
     record {

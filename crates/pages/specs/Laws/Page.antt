@@ -1,8 +1,11 @@
 -- What a page holds in the end: a page that begins empty takes its window of the text, what is past that keeps its content, and a byte is left
 -- out exactly where the text goes on. So the pages in order are the text. From what one byte does, by induction over the text.
-use Rattle.std.specs.Prelude.{ℕ, zero, suc, ◌+◌, ◌-◌, ◌≤◌, ◌<◌, ◌≡◌, refl, Bool, true, false, ◌||◌, List, [], ◌∷◌, ◌++◌, ltb, take, drop, set}
+use Rattle.std.specs.Prelude.{ℕ, zero, suc, ◌+◌, ◌-◌, ◌≤◌, ◌<◌, ◌≡◌, refl, Bool, true, false, cond, ◌||◌, Some, None, List, [], ◌∷◌, ◌++◌, ltb, take, drop, set}
+use Rattle.std.specs.Bool.{then_some}
+use Rattle.std.specs.Option.{option_map_or}
 use Rattle.std.specs.Borrow.{GName}
 use Rattle.std.proofs.Common.{sym, ap, ap₂, ◌∙◌, append_assoc, append-nil, arith, add-zero, zero-add, add-one, take-append-drop, length-append, length-take, length-drop, drop_of_length-le, take_all, take-suc-set, drop-set-lt, drop-drop}
+use Rattle.std.proofs.lemmas.Option.{none-some, cond_some}
 use Rattle.std.proofs.Math.Bool.{or-true, or-false}
 use Rattle.std.proofs.Math.Decide.{dec_le, dec_lt}
 use Rattle.std.proofs.Math.Nat.{sub-zero}
@@ -194,13 +197,17 @@ page_length l lent from =
 
 -- ---- what is said of a page
 
+given_if : (t : Bool) (n : ℕ) → then_some t n ≡ cond t (Some n) None
+given_if true n = refl
+given_if false n = refl
+
 abbrev said : ℕ → ℕ → Bool → Printed
-said from bytes more = record { bytes = bytes; next = from + bytes; more = more }
+said from bytes more = record { bytes = bytes; next = cond more (Some (from + bytes)) None }
 
 pub printed_is : (l lent : List ℕ) (from : ℕ) (loan : GName) (p : Page) → Taken l lent from loan p
-    → record { bytes = p.at; next = from + p.at; more = p.more } ≡ printed_of from (length lent) l
+    → record { bytes = p.at; next = then_some p.more (from + p.at) } ≡ printed_of from (length lent) l
 unfolding printed_of
-printed_is l lent from loan p t = ap₂ (said from) t.place t.more
+printed_is l lent from loan p t = rw given_if (ap₂ (said from) t.place t.more)
 
 -- The next page begins within the text, or where this one did.
 pub next_within : (l : List ℕ) (from most bound : ℕ) → from ≤ bound → length l ≤ bound → from + length (window from most l) ≤ bound
@@ -208,15 +215,27 @@ unfolding window
 next_within l from most bound h k = omega (arith, length-take most (drop from l), length-drop from l)
 
 -- Where a page follows, this one is full and the text goes on behind it.
-pub record Follows (l : List ℕ) (from most : ℕ) (p : Printed) : Type 0 where
-  pub full : p.next ≡ from + most
-  pub goes_on : p.next < length l
+pub record Follows (l : List ℕ) (from most next : ℕ) : Type 0 where
+  pub full : next ≡ from + most
+  pub goes_on : next < length l
 
-pub follows : (l : List ℕ) (from most : ℕ) → (printed_of from most l).more ≡ true → Follows l from most (printed_of from most l)
-unfolding printed_of window
-follows l from most e =
-    let on : from + length (take most (drop from l)) < length l = ltb-true (from + length (take most (drop from l))) (length l) e in
-    record { full = omega (arith, length-take most (drop from l), length-drop from l); goes_on = on }
+none_given : (t : Bool) (n : ℕ) → cond t (Some n) None ≡ None → t ≡ false
+none_given true n e = absurd (none-some n (sym e))
+none_given false n e = refl
+
+module _ (l : List ℕ) (from most : ℕ) where
+  pub follows : (next : ℕ) → (printed_of from most l).next ≡ Some next → Follows l from most next
+  unfolding printed_of window
+  follows next e =
+      let bytes : ℕ = length (take most (drop from l)) in
+      let given = cond_some (ltb (from + bytes) (length l)) (from + bytes) next e in
+      let on : from + bytes < length l = ltb-true (from + bytes) (length l) given.0 in
+      record { full = omega (arith, given.1, on, length-take most (drop from l), length-drop from l); goes_on = omega (arith, given.1, on) }
+
+  -- Where none follows, the text ends with this page.
+  pub ends : (printed_of from most l).next ≡ None → length l ≤ from + length (window from most l)
+  unfolding printed_of
+  ends e = ltb-false (from + length (window from most l)) (length l) (none_given _ (from + length (window from most l)) e)
 
 -- ---- the pages in order are the text
 
@@ -224,7 +243,7 @@ pages_from_lem : (l : List ℕ) (most : ℕ) → 0 < most → (count from : ℕ)
 unfolding pages_from printed_of window
 pages_from_lem l most some zero from within enough = absurd (omega arith)
 pages_from_lem l most some (suc count) from within enough =
-    by_test (λ rest. take most (drop from l) ++ rest ≡ drop from l) (ltb (from + length (take most (drop from l))) (length l))
+    by_test (λ next. take most (drop from l) ++ option_map_or (λ n. pages_from count n most l) next [] ≡ drop from l) (ltb (from + length (take most (drop from l))) (length l))
     (λ e.
     let on : from + length (take most (drop from l)) < length l = ltb-true (from + length (take most (drop from l))) (length l) e in
     let whole : from + length (take most (drop from l)) ≡ from + most = omega (arith, length-take most (drop from l), length-drop from l) in

@@ -1,11 +1,11 @@
--- What the sets of a list have together when one more set follows, and that they have the same together and in common by number as by size.
+-- What the sets of a list have together, and what they have in common: when one more set follows, and the same of a list by number as of the list by size.
 -- From what such a set has, rule by rule.
-use Rattle.std.specs.Prelude.{ℕ, ◌^◌, ◌<◌, ◌≡◌, refl, ◌↔◌, Bool, true, List, [], ◌∷◌, ◌++◌}
+use Rattle.std.specs.Prelude.{ℕ, ◌^◌, ◌<◌, ◌≡◌, refl, ◌↔◌, ◌≢◌, Bool, true, List, [], ◌∷◌, ◌++◌}
 use Rattle.std.proofs.Common.{sym, ap, ◌∙◌, inl, inr, ⊎_elim, lt_of_le_ones}
 use Rattle.std.proofs.Math.Logic.Iff
 use Rattle.std.proofs.Math.Bool.{or_assoc}
 use mathlib.Core.List.Memᴰ
-use Rattle.std.specs.Int.Bits.{bit_or}
+use Rattle.std.specs.Int.Bits.{bit_and, bit_or}
 use Rattle.std.proofs.lemmas.Nat.{or_comm}
 use Rattle.sets.specs.Bit.{has, full}
 use Rattle.sets.specs.Laws.Bit.{has_or, has_le, has_zero, has_below, has_full}
@@ -13,7 +13,7 @@ use Rattle.sets.specs.Laws.Gathered.{or_has}
 use Rattle.sets.specs.Sets.{◌⊑◌}
 use Rattle.sets.specs.Laws.Sets.{part_antisym}
 use Rattle.sets.specs.Demand3.{◌∈◌}
-use Rattle.sets.specs.Lists.{select, list_of, common}
+use Rattle.sets.specs.Lists.{select, list_of, meet, common}
 use Rattle.sets.specs.Laws.Listed.{mem_select, mem_list_of}
 use Rattle.sets.proofs.Laws.Must.{has_common}
 use Rattle.sets.specs.Kinds.{together}
@@ -58,6 +58,16 @@ pub together_more : (l : List ℕ) (S : ℕ) → together (l ++ S ∷ []) ≡ bi
 unfolding together
 together_more [] S = or_comm S 0
 together_more (T ∷ l) S = ap (bit_or T) (together_more l S) ∙ bit_or_assoc T (together l) S
+
+meet_more : (l : List ℕ) (S T : ℕ) → meet S (l ++ T ∷ []) ≡ bit_and (meet S l) T
+unfolding meet
+meet_more [] S T = refl
+meet_more (U ∷ l) S T = meet_more l (bit_and S U) T
+
+pub common_more : (l : List ℕ) (S : ℕ) → l ≢ [] → common (l ++ S ∷ []) ≡ bit_and (common l) S
+unfolding common
+common_more [] S some = absurd (some refl)
+common_more (T ∷ l) S some = meet_more l T S
 
 -- ---- by number and by size
 

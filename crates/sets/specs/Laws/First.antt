@@ -2,8 +2,8 @@
 -- first rule, followed by the list of the set without it, as a loop takes one rule after the other.
 -- From the digits of a number, by induction on the places, and from the list of the numbers that pass a test, by induction on its length.
 use Prim.Native.Nat.{ℕ, zero, suc, ◌/◌, ◌%◌, ◌^◌, ◌≤◌, ◌<◌}
-use Rattle.std.specs.Prelude.{◌≡◌, refl, ◌≢◌, Bool, true, false, [], ◌∷◌}
-use Rattle.std.proofs.Common.{◌∙◌, arith, pow-suc, eq-or-lt_of_le, le_of_suc-le-suc, pow_mono, eq-eqb, ne_eqb}
+use Rattle.std.specs.Prelude.{◌≡◌, refl, ◌≢◌, Bool, true, false, Some, None, [], ◌∷◌}
+use Rattle.std.proofs.Common.{sym, ◌∙◌, arith, pow-suc, eq-or-lt_of_le, le_of_suc-le-suc, pow_mono, eq-eqb, ne_eqb}
 use Rattle.std.proofs.Math.Logic.{⊎_elim}
 use Rattle.std.specs.Int.Count.{count_trailing_zeros, under}
 use Rattle.std.proofs.lemmas.Nat.{trailing_le}
@@ -14,6 +14,8 @@ use Rattle.sets.specs.Sets.{without}
 use Rattle.sets.specs.Laws.Sets.{has_without}
 use Rattle.sets.specs.Laws.Cores.{false_if}
 use Rattle.sets.specs.Lists.{select}
+use Rattle.sets.specs.Next.{next_if_any}
+use Rattle.sets.specs.Laws.Next.{next_is_some, next_is_none, is_some_next, is_none_next}
 
 -- ---- the first rule
 
@@ -42,6 +44,18 @@ first_least (suc k) S (suc j) =
     turn (λ t. suc j < t → has S (suc j) ≡ false) k S (λ e l. absurd (omega arith))
     (λ e l. has_behind S j ∙ first_least k (S / 2) j (omega arith))
 
+-- So it is the first of 16 that is in the set.
+pub first_next : (S : ℕ) → S ≢ 0 → S < 65536 → Some (count_trailing_zeros 16 S) ≡ next_if_any (has S) 0 16
+first_next S n l =
+    let t : ℕ = count_trailing_zeros 16 S in
+    let itself : has S t ≡ true = first_has 16 S n l in
+    let below : t < 16 = has_below 16 S t l itself in
+    sym (is_some_next (has S) (omega arith) below
+    (record { within = omega arith; after = λ _. omega arith; passes = λ _. itself; passed = λ j a b. first_least 16 S j b }))
+
+pub none_next : None ≡ next_if_any (has 0) 0 16
+none_next = sym (is_none_next (has 0) (λ j a b. false_if (has 0 j) (has_zero j)))
+
 -- ---- the list of the rules
 
 none_passes : (q : ℕ → Bool) (n : ℕ) → ((j : ℕ) → j < n → q j ≡ false) → select q n ≡ []
@@ -61,16 +75,33 @@ module _ (q p : ℕ → Bool) (t : ℕ) (passes : q t ≡ true) (least : (j : �
       (λ b. rw (first_passes n b, rest n (omega arith)))
       (eq-or-lt_of_le (le_of_suc-le-suc l))
 
+-- The rules of a set whose first rule is t: this one, and then those of the set without it.
+without_first : (S t : ℕ) → has S t ≡ true → ((j : ℕ) → j < t → has S j ≡ false) → (R : ℕ) → t < R
+    → select (has S) R ≡ t ∷ select (has (without S t)) R
+without_first S t itself least =
+    first_passes (has S) (has (without S t)) t itself least
+    (false_if (has (without S t) t) (λ e. ((has_without S t t).0 e).1 refl))
+    (λ j other. alike (has (without S t) j) (has S j) (λ e. ((has_without S t j).0 e).0) (λ e. (has_without S t j).1 (e, other)))
+
 -- The rules of a set of R rules that is not set 0: its first rule, and then those of the set without it.
 pub select_first : (R S : ℕ) → R ≤ 16 → S ≢ 0 → S < 2 ^ R
     → select (has S) R ≡ count_trailing_zeros 16 S ∷ select (has (without S (count_trailing_zeros 16 S))) R
 select_first R S b n l =
     let t : ℕ = count_trailing_zeros 16 S in
     let itself : has S t ≡ true = first_has 16 S n (omega (arith, pow_mono b)) in
-    first_passes (has S) (has (without S t)) t itself (first_least 16 S)
-    (false_if (has (without S t) t) (λ e. ((has_without S t t).0 e).1 refl))
-    (λ j other. alike (has (without S t) j) (has S j) (λ e. ((has_without S t j).0 e).0) (λ e. (has_without S t j).1 (e, other)))
-    R (has_below R S t l itself)
+    without_first S t itself (first_least 16 S) R (has_below R S t l itself)
+
+-- The same of a set whose first rule is told; and a set that is told to have none has no rules.
+pub select_told : (S t : ℕ) → Some t ≡ next_if_any (has S) 0 16 → select (has S) 16 ≡ t ∷ select (has (without S t)) 16
+select_told S t told =
+    let next = next_is_some (has S) (sym told) in
+    without_first S t (next.2.passes next.1) (λ j l. next.2.passed j (omega arith) l) 16 next.1
+
+pub told_below : (S t : ℕ) → Some t ≡ next_if_any (has S) 0 16 → t < 16
+told_below S t told = (next_is_some (has S) (sym told)).1
+
+pub told_none : (S : ℕ) → None ≡ next_if_any (has S) 0 16 → select (has S) 16 ≡ []
+told_none S told = none_passes (has S) 16 (λ j l. next_is_none (has S) (sym told) j (omega arith) l)
 
 -- Set 0 has no rules.
 pub select_none : (R : ℕ) → select (has 0) R ≡ []

@@ -37,6 +37,17 @@ module _ (p : ℕ → Bool) where
       (λ t. one s refl (omega arith) (omega arith) t (λ j a b. absurd (omega arith)))
       (λ t. further s t (found (s + 1) k))
 
+  -- Only one number from s on and below n is the next one.
+  only_next : {s n a b : ℕ} → s ≤ n → NextFrom p s n a → NextFrom p s n b → a ≤ b
+  only_next {s} {n} {a} {b} l f g =
+      elim (dec_lt b a) [
+        | yes h ↦ absurd (true≢false (sym (g.passes (omega (arith, f.within))) ∙ f.passed b (g.after l) h))
+        | no h ↦ omega arith
+      ]
+
+  pub one_next : {s n a b : ℕ} → s ≤ n → NextFrom p s n a → NextFrom p s n b → a ≡ b
+  one_next l f g = omega (arith, only_next l f g, only_next l g f)
+
   -- What is said of the next number that passes; and where none passes.
   pub next_is_some : {s n r : ℕ} → next_if_any p s n ≡ Some r → (s ≤ r) × (r < n) × NextFrom p s n r
   unfolding next_if_any
@@ -62,12 +73,7 @@ module _ (p : ℕ → Bool) where
   is_some_next {s} {n} {r} a l f = go (found s (n - s))
     where
       go : Found s (n - s) (find p (range_with_len s (n - s))) → find p (range_with_len s (n - s)) ≡ Some r
-      go (one t q b m y none) = q ∙ ap Some (same t b m y none (dec_lt t r) (dec_lt r t))
-        where
-          same : (t : ℕ) → s ≤ t → t < s + (n - s) → p t ≡ true → ((j : ℕ) → s ≤ j → j < t → p j ≡ false) → Dec (t < r) → Dec (r < t) → t ≡ r
-          same t b m y none (yes h) d = absurd (true≢false (sym y ∙ f.passed t b h))
-          same t b m y none (no h) (yes g) = absurd (true≢false (sym (f.passes l) ∙ none r a g))
-          same t b m y none (no h) (no g) = omega arith
+      go (one t q b m y none) = q ∙ ap Some (one_next (omega arith) (record { within = omega arith; after = λ _. b; passes = λ _. y; passed = none }) f)
       go (no_one q none) = absurd (true≢false (sym (f.passes l) ∙ none r a (omega arith)))
 
   pub is_none_next : {s n : ℕ} → ((k : ℕ) → s ≤ k → k < n → p k ≡ false) → next_if_any p s n ≡ None

@@ -65,6 +65,10 @@ pub part_and : {S T : ℕ} → S ⊑ T → bit_and S T ≡ S
 unfolding part
 part_and {S} {T} p = eqb-true (bit_and S T) S ((part_iff S T).1 p)
 
+-- A set without what it has of a part is the set less the part.
+pub less_part : {S T : ℕ} → S ⊑ T → T - bit_and T S ≡ T - S
+less_part {S} {T} p = ap (λ (U : ℕ). T - U) (and_comm T S ∙ part_and p)
+
 pub has_less : {S T : ℕ} → T ⊑ S → (i : ℕ) → (has (S - T) i ≡ true) ↔ ((has S i ≡ true) × (¬ (has T i ≡ true)))
 has_less {S} {T} p i =
     subst (λ (U : ℕ). (has (S - U) i ≡ true) ↔ ((has S i ≡ true) × (¬ (has T i ≡ true)))) (and_comm S T ∙ part_and p) (has_minus S T i)

@@ -5,8 +5,8 @@ use Rattle.semantics.proofs.Laws.Filled.{few_rules}
 use Rattle.analysis.proofs.Filled.{its_log, blame_is}
 use Rattle.analysis.proofs.blame.blame.Goals as goal
 
-pub with_systems-requires-clause-callable : goal.with_systems-requires-clause-callable
-with_systems-requires-clause-callable c = search (rules, few_rules, its_log)
+pub with_systems-requires : goal.with_systems-requires
+with_systems-requires c = record { callable = λ s f. search (rules, few_rules, its_log) }
 
 pub returns : goal.returns
 returns c = blame_is c.with_systems.ensures.1 c.requires.log (search rules)

@@ -1,6 +1,6 @@
--- `bodies::properties::property_lines` meets what the next line asks: it begins within the text. Assumes nothing.
-use Rattle.bodies.specs.Laws.Ranges.{property_due}
+-- `bodies::properties::property_lines` keeps what was read of the property lines. Assumes nothing.
+use Rattle.bodies.proofs.PartLines.{properties_kept}
 use Rattle.bodies.proofs.properties.property_lines.Goals as goal
 
-pub next_property-requires : goal.next_property-requires
-next_property-requires c = property_due _ _ _ _ _ _ c.requires c.loop-j-test.true c.loop-j.invariant
+pub returns-clause-kept : goal.returns-clause-kept
+returns-clause-kept c = properties_kept c.args.text.now c.args.vars c.args.r.now c.args.properties _ _ c.part_lines.ensures.kept

@@ -1,6 +1,6 @@
--- `bodies::rules::rule_lines` meets what the next line asks: it begins within the text. Assumes nothing.
-use Rattle.bodies.specs.Laws.Ranges.{rule_due}
+-- `bodies::rules::rule_lines` keeps what was read of the rule lines. Assumes nothing.
+use Rattle.bodies.proofs.PartLines.{rules_kept}
 use Rattle.bodies.proofs.rules.rule_lines.Goals as goal
 
-pub next_rule-requires : goal.next_rule-requires
-next_rule-requires c = rule_due _ _ _ _ _ _ c.requires c.loop-i-test.true c.loop-i.invariant
+pub returns-clause-kept : goal.returns-clause-kept
+returns-clause-kept c = rules_kept c.args.text.now c.args.vars c.args.r.now c.args.rules _ _ c.part_lines.ensures.kept

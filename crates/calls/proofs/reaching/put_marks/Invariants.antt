@@ -4,4 +4,4 @@ use Rattle.calls.proofs.ReachedFacts.{marks_put}
 use Rattle.calls.proofs.reaching.put_marks.Given as goal
 
 abbrev pub invariant-loop-s : goal.invariant-loop-s
-invariant-loop-s l = l.lent ≡ marks_put l.marks l.fn.lent l.s
+invariant-loop-s l = l.bytes ≡ marks_put l.marks l.initial.bytes l.s

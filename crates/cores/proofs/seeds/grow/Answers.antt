@@ -10,9 +10,9 @@ use Rattle.sets.specs.Sets.{with}
 use Rattle.sets.specs.Laws.Sets.{with_above, with_below, part_trans}
 use Rattle.sets.specs.Cores.{Monotone}
 use Rattle.marks.specs.Marks.{marked}
-use Rattle.systems.specs.ByTables.{judge_by}
+use Rattle.systems.specs.BySystems.{judge_among}
 use Rattle.cores.specs.Seeds.{Growable, Grown}
-use Rattle.cores.specs.Laws.Seeds.{ungrown, grown_more, grown_same}
+use Rattle.cores.specs.Laws.Seeds.{grown_more, grown_same}
 use Rattle.cores.specs.Laws.Judged.{tables_monotone}
 use Rattle.cores.proofs.seeds.grow.Goals as goal
 use Rattle.cores.proofs.seeds.grow.Goals.{then-stays_broken, else-stays_broken}
@@ -38,9 +38,6 @@ module _ (R : ℕ) (h : ℕ → Bool) (unknown : List ℕ) (mono : Monotone R h)
           let t : test ≡ true = rw (n, x, y) in
           absurd (true≢false (sym t ∙ sym said ∙ f))
 
-pub loop-i-init : goal.loop-i-init
-loop-i-init c = ungrown _ _ _ c.requires.broken c.requires.below
-
 pub stays_broken-requires : goal.stays_broken-requires
 stays_broken-requires c =
     let i = c.loop-i in
@@ -49,13 +46,10 @@ stays_broken-requires c =
 pub loop-i-preserved : goal.loop-i-preserved
 loop-i-preserved c =
     let t = c.args.systems.tables.now in
-    let h = judge_by c.args.systems.masks.now t in
+    let h = judge_among c.args.systems in
     let mono = tables_monotone c.args.systems.masks.now t in
     let i = c.loop-i in
     elim c.if-stays_broken.branch [
       | then-stays_broken w ↦ rw w.most-is (taken t.rules h _ mono _ c.requires i.i c.loop-i-test.true i.invariant c.stays_broken.ensures w.if-stays_broken.true w.with-most.ensures)
       | else-stays_broken w ↦ rw w.most-is (left t.rules h _ mono _ c.requires i.i c.loop-i-test.true i.invariant c.stays_broken.ensures w.if-stays_broken.false)
     ]
-
-pub returns : goal.returns
-returns c = let end : c.loop-i.i ≡ c.args.systems.tables.now.rules = omega arith in rw end at c.loop-i.invariant

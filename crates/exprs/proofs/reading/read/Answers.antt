@@ -2,6 +2,7 @@
 use Prim.Native.Nat.{ℕ}
 use mathlib.Core.Path.{◌≡◌, refl, ap, ◌∙◌}
 use Rattle.std.specs.Prelude.{option_map}
+use Rattle.std.proofs.Common.{rules}
 use Rattle.std.proofs.Math.Option.{Option, none, some}
 use Rattle.exprs.specs.declared.token.Token.{Token}
 use Rattle.exprs.specs.Expr.{Expr}
@@ -10,15 +11,14 @@ use Rattle.exprs.specs.Folded.{worth_of}
 use Rattle.exprs.specs.Answers.{read_of, used_by}
 use Rattle.exprs.proofs.reading.read.Goals as goal
 
-bytes_alone : {W : Type 0} (leaf : Token → W) (operator : Token → W → W → W) (o : Option Expr) → option_map (λ (v : W × ℕ). v.1) (worth_of leaf operator o) ≡ used_by o
+bytes_alone : {W : Type 0} (leaf : Token → W) (negated : W → W) (joined : Token → W → W → W) (o : Option Expr)
+    → option_map (λ (v : W × ℕ). v.1) (worth_of leaf negated joined o) ≡ used_by o
 unfolding worth_of used_by
-bytes_alone leaf operator none = refl
-bytes_alone leaf operator (some e) = refl
-
-pub returns-in_err-bytes : goal.returns-in_err-bytes
-unfolding read_of
-returns-in_err-bytes c = c.from_residual.ensures ∙ ap (option_map (λ v. v.1)) c.in_err-bytes.ensures ∙ bytes_alone _ _ (read_expr c.args.s.now)
+bytes_alone leaf negated joined none = refl
+bytes_alone leaf negated joined (some e) = refl
 
 pub returns : goal.returns
 unfolding read_of
-returns c = ap (option_map (λ v. v.1)) c.in_ok-bytes.ensures ∙ bytes_alone _ _ (read_expr c.args.s.now)
+returns c =
+    let bytes : c.map.result ≡ option_map (λ v. v.1) c.evaluate.result = search rules in
+    bytes ∙ ap (option_map (λ v. v.1)) c.evaluate.ensures ∙ bytes_alone _ _ _ (read_expr c.args.s.now)

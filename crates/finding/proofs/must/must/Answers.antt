@@ -4,8 +4,8 @@ use Rattle.semantics.proofs.Laws.Filled.{few_rules}
 use Rattle.finding.proofs.Filled.{must_is}
 use Rattle.finding.proofs.must.must.Goals as goal
 
-pub with_systems-requires-clause-callable : goal.with_systems-requires-clause-callable
-with_systems-requires-clause-callable c = search (rules, few_rules)
+pub with_systems-requires : goal.with_systems-requires
+with_systems-requires c = record { callable = λ s f. search (rules, few_rules) }
 
 pub returns : goal.returns
 returns c = must_is c.with_systems.ensures.1 (search rules)

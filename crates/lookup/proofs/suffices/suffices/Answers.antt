@@ -8,7 +8,7 @@ use Rattle.lookup.proofs.suffices.suffices.Goals.{then-cores-eq1-via-then-cores-
 pub returns-then-cores-eq1 : goal.returns-then-cores-eq1
 unfolding suffices_answer odd_count
 returns-then-cores-eq1 c =
-    rw c.at.ensures
+    rw c.into.ensures
     (elim c.then-cores-eq1.branch [
       | then-cores-eq1-via-then-cores-eq1 w ↦ rw (eq-eqb _ _ w.if-cores-eq1.true)
       | then-cores-eq1-via-else-cores-eq1+then-cuts-eq1 w ↦ rw (ne_eqb _ _ w.if-cores-eq1.false, eq-eqb _ _ w.if-cuts-eq1.true)

@@ -1,11 +1,11 @@
 -- `marks::table::first_marked`: the next marked set is among the marks that are left of the word, or in the words after it. From the laws of words.
-use Rattle.std.proofs.Common.{ℕ, ◌+◌, ◌*◌, ◌/◌, ◌%◌, ◌^◌, ◌<◌, ◌≡◌, sym, List, get_or, arith}
+use Rattle.std.proofs.Common.{ℕ, ◌+◌, ◌*◌, ◌/◌, ◌%◌, ◌^◌, ◌<◌, ◌≡◌, sym, ◌∙◌, List, get_or, arith}
 use Rattle.std.specs.Int.Count.{count_trailing_zeros}
 use Rattle.std.specs.Prelude.{Some, ◌≢◌}
 use Rattle.sets.specs.Next.{NextFrom, next_if_any}
 use Rattle.sets.specs.Laws.Next.{next_is_some, is_none_next}
 use Rattle.marks.specs.Marks.{marked}
-use Rattle.marks.proofs.Words.{Passed, rest_of_word, word_passed, first_one, after_passed, found_below, none_below, none_found}
+use Rattle.marks.proofs.Words.{Passed, rest_of_word, word_passed, first_one, after_passed, found_if, none_found}
 use Rattle.marks.proofs.table.first_marked.Goals as goal
 use Rattle.marks.proofs.table.first_marked.Goals.{then-bits-ne0, else-bits-ne0+in_ok-set}
 
@@ -39,26 +39,15 @@ returns-in_err-set c =
     let over = word_over a.table.now a.from words (λ w. omega (arith, c.type_inv.table w)) (omega arith) c.if-bits-ne0.false in
     rw c.from_residual.ensures (none_found {top = 64 * words} (omega arith) c.if-end-from.false over (sym c.in_err-set.ensures))
 
-pub returns-then-set-end : goal.returns-then-set-end
+pub returns : goal.returns
 unfolding left
-returns-then-set-end c =
+returns c =
     let a = c.args in
     let words : ℕ = (a.end + 63) / 64 in
-    elim c.if-bits-ne0.branch [
-      | then-bits-ne0 w ↦ let f = in_word a.table.now a.from words (λ w. omega (arith, c.type_inv.table w)) (omega arith) w.if-bits-ne0.true in
-          rw w.set-is (found_below {top = 64 * words} (omega arith) c.if-end-from.false f (omega (arith, c.if-set-end.true)))
-      | else-bits-ne0+in_ok-set w ↦ let f = behind_word a.table.now a.from words (λ w. omega (arith, c.type_inv.table w)) (omega arith) w.if-bits-ne0.false w.in_ok-set.ensures in
-          rw w.set-is (found_below {top = 64 * words} (omega arith) c.if-end-from.false f (omega (arith, c.if-set-end.true)))
-    ]
-
-pub returns-else-set-end : goal.returns-else-set-end
-unfolding left
-returns-else-set-end c =
-    let a = c.args in
-    let words : ℕ = (a.end + 63) / 64 in
-    elim c.if-bits-ne0.branch [
-      | then-bits-ne0 w ↦ let f = in_word a.table.now a.from words (λ w. omega (arith, c.type_inv.table w)) (omega arith) w.if-bits-ne0.true in
-          none_below {top = 64 * words} (omega arith) c.if-end-from.false f (omega (arith, c.if-set-end.false))
-      | else-bits-ne0+in_ok-set w ↦ let f = behind_word a.table.now a.from words (λ w. omega (arith, c.type_inv.table w)) (omega arith) w.if-bits-ne0.false w.in_ok-set.ensures in
-          none_below {top = 64 * words} (omega arith) c.if-end-from.false f (omega (arith, c.if-set-end.false))
-    ]
+    let small : (w : ℕ) → get_or a.table.now w 0 < 2 ^ 64 = λ w. omega (arith, c.type_inv.table w) in
+    c.then_some.ensures
+    ∙ found_if {top = 64 * words} (omega arith) c.if-end-from.false
+    (elim c.if-bits-ne0.branch [
+      | then-bits-ne0 w ↦ rw w.set-is (in_word a.table.now a.from words small (omega arith) w.if-bits-ne0.true)
+      | else-bits-ne0+in_ok-set w ↦ rw w.set-is (behind_word a.table.now a.from words small (omega arith) w.if-bits-ne0.false w.in_ok-set.ensures)
+    ])

@@ -2,7 +2,7 @@
 use Rattle.std.proofs.Common.{arith, ap, ◌∙◌}
 use Rattle.sets.specs.OneCore.{unjudged, after_verdict, after_set, after_order, one_core_of}
 use Rattle.sets.specs.Laws.Orders.{order_below}
-use Rattle.systems.specs.ByTables.{judge_by}
+use Rattle.systems.specs.BySystems.{judge_among}
 use Rattle.orders.proofs.one_core.one_core.Goals as goal
 
 pub drop_all-requires-clause-below : goal.drop_all-requires-clause-below
@@ -15,5 +15,5 @@ drop_all-requires-clause-few c = omega (arith, ap (λ d. d.judgements) c.judged-
 pub returns : goal.returns
 unfolding one_core_of unjudged
 returns c =
-    let h = judge_by c.args.systems.masks.now c.args.systems.tables.now in
+    let h = judge_among c.args.systems in
     c.drop_all.ensures ∙ ap (λ d. after_order h d c.args.order.now) (c.judged-first.ensures ∙ ap (after_set h unjudged) c.full-all.ensures)

@@ -1,5 +1,6 @@
 -- The report of a page: it takes its window of the report on the part of the input that is judged, and no report is so long that the next page's place would
 -- not fit.
+use Rattle.std.specs.Bool.{then_some}
 use Rattle.std.specs.Borrow.{GName}
 use Rattle.std.proofs.Common.{ℕ, ◌+◌, ◌≤◌, ◌≡◌, sym, List, ◌∙◌, arith, rules, length}
 use Rattle.sets.specs.Lists.{overwritten}
@@ -23,7 +24,7 @@ module _ (input text lent : List ℕ) (from : ℕ) (loan : GName) (p q : Page) (
   next_fits bound h k =
       omega (arith, takes.place, next_within whole from (length lent) bound h (omega (arith, report_length (judged_part input))))
 
-  says : record { bytes = q.at; next = from + q.at; more = q.more } ≡ printed_of from (length lent) (report_of (judged_part input))
+  says : record { bytes = q.at; next = then_some q.more (from + q.at) } ≡ printed_of from (length lent) (report_of (judged_part input))
   unfolding whole
   says = printed_is whole lent from loan q takes
 
@@ -32,13 +33,14 @@ module _ (input text lent : List ℕ) (from : ℕ) (loan : GName) (p q : Page) (
   unfolding whole
   holds after back = back (sym takes.same_loan) ∙ takes.bytes
 
-pub overflow_add-next : goal.overflow_add-next
-overflow_add-next c =
+pub overflow_add-from : goal.overflow_add-from
+overflow_add-from c =
     let n = next_fits _ _ _ c.args.from _ _ _ c.judged.ensures c.new-lent.ensures c.whole_report.ensures 18446744073709551615 (omega arith) (omega arith) in
-    omega (arith, c.stored-bytes.ensures.bytes)
+    omega (arith, c.stored-bytes.ensures)
 
 pub returns-clause-value : goal.returns-clause-value
-returns-clause-value c = rw (c.stored-bytes.ensures.bytes, c.stored-bytes.ensures.left_out) (says _ _ _ _ _ _ _ c.judged.ensures c.new-lent.ensures c.whole_report.ensures)
+returns-clause-value c =
+    rw (c.then_some-next.ensures, c.goes_on.ensures, c.stored-bytes.ensures) (says _ _ _ _ _ _ _ c.judged.ensures c.new-lent.ensures c.whole_report.ensures)
 
 pub returns-clause-page_after : goal.returns-clause-page_after
 returns-clause-page_after c = holds _ _ _ _ _ _ _ c.judged.ensures c.new-lent.ensures c.whole_report.ensures _ (λ e. search rules)

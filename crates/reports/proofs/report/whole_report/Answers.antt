@@ -3,7 +3,8 @@ use Rattle.std.proofs.Common.{ℕ, ◌≡◌, sym, ap, List}
 use Rattle.refusals.specs.Answers.{Outcome, Accepted, Refused}
 use Rattle.models.specs.Written.{model_in}
 use Rattle.calls.specs.Answers.{text_outcome}
-use Rattle.calls.proofs.Laws.Answers.{is_read, is_refused}
+use Rattle.calls.specs.AsRead.{IsRead, IsModelOf}
+use Rattle.semantics.specs.declared.model_text.ModelText.{ModelText}
 use Rattle.reports.specs.Report.{model_report, refusal_report, report_on, report_of}
 use Rattle.pages.specs.Laws.Putting.{put_as}
 use Rattle.reports.proofs.report.whole_report.Goals as goal
@@ -22,11 +23,19 @@ module _ (text : List ℕ) where
   unfolding report_on
   accepted e = as_read Accepted e
 
+-- the text is handed on with its model
+module _ {text : List ℕ} {m : ModelText} (r : IsModelOf text m) where
+  as_handed : IsRead m.text.now m.model
+  as_handed = rw r.same r.read
+
+  put_report : model_report (model_in m.text.now) ≡ report_of text
+  put_report = rw r.same (accepted text r.read.outcome)
+
 pub invariant_of-model_report : goal.invariant_of-model_report
-invariant_of-model_report c = record { is_read = is_read _ c.read_model.ensures c.in-Ok.is }
+invariant_of-model_report c = record { is_read = as_handed c.in-Ok.ensures.read }
 
 pub returns-in-Ok : goal.returns-in-Ok
-returns-in-Ok c = put_as _ _ _ _ c.model_report.ensures (accepted _ (is_read _ c.read_model.ensures c.in-Ok.is).outcome)
+returns-in-Ok c = put_as _ _ _ _ c.model_report.ensures (put_report c.in-Ok.ensures.read)
 
 pub returns-in-Err : goal.returns-in-Err
-returns-in-Err c = put_as _ _ _ _ c.refusal_report.ensures (refused _ _ _ (is_refused _ c.read_model.ensures c.in-Err.is))
+returns-in-Err c = put_as _ _ _ _ c.refusal_report.ensures (refused _ _ _ c.in-Err.ensures.refused)

@@ -6,8 +6,8 @@ use Rattle.sections.proofs.verdict.verdict_lines.Goals as goal
 pub by_property-requires : goal.by_property-requires
 by_property-requires c = place_fits _ _ c.args.read.is_read _ (omega (arith, c.loop-j-test.true))
 
-pub verdict_of-requires : goal.verdict_of-requires
-verdict_of-requires c = few_alone _ _ c.args.read.is_read _ _ c.by_property.ensures
+pub invariant_of-alone : goal.invariant_of-alone
+invariant_of-alone c = record { few = few_alone _ _ c.args.read.is_read _ _ c.by_property.ensures }
 
 pub loop-j-preserved : goal.loop-j-preserved
 loop-j-preserved c =

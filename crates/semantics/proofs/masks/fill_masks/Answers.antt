@@ -19,7 +19,7 @@ module _ (text : List ℕ) (rules : List RuleParts) (states n : ℕ) where
   start_row = same_entries n (start_mask_by text rules) (mask_row_by text rules states states) (λ t _. rw (le-ltb states states (omega arith)))
 
 pub loop-s-init : goal.loop-s-init
-loop-s-init c = none_of_rows _ _ _ c.requires.few.1 c.requires.room
+loop-s-init c = none_of_rows _ _ _ c.requires.few c.requires.room
 
 pub loop-s-preserved : goal.loop-s-preserved
 loop-s-preserved c = one_row_more _ _ _ _ _ c.loop-s.invariant _ c.loop-s-test.true (c.fill_row.ensures ∙ state_row _ _ _ _ _ c.loop-s-test.true)

@@ -44,9 +44,9 @@ pub slice_bounds-fill_block-end-else-row-le64 : goal.slice_bounds-fill_block-end
 slice_bounds-fill_block-end-else-row-le64 c = sym (length-take-le 64 c.args.row.now (omega arith))
 
 pub fill_block-requires-else-row-le64 : goal.fill_block-requires-else-row-le64
-fill_block-requires-else-row-le64 c = (c.requires.0, omega (arith, length-take 64 c.args.row.now))
+fill_block-requires-else-row-le64 c = omega (arith, length-take 64 c.args.row.now)
 
 pub returns-else-row-le64 : goal.returns-else-row-le64
 returns-else-row-le64 c =
     let a = c.args in
-    two_blocks (mask_by a.text.now a.rules.now a.s) a.row.now _ _ (omega arith) c.fill_block-else-row-le64.ensures c.fill_block-else-row-le64-2.ensures
+    two_blocks (mask_by a.rules.text.now a.rules.parts.now a.s) a.row.now _ _ (omega arith) c.fill_block-else-row-le64.ensures c.fill_block-else-row-le64-2.ensures

@@ -13,4 +13,4 @@ one_word f rules words i w d a b e h =
 pub loop-i-preserved : goal.loop-i-preserved
 loop-i-preserved c =
     let l = c.loop-i in
-    (simp length-set (omega arith), one_word _ c.args.rules.now l.words l.i _ _ (omega arith) c.loop-i-test.true c.word_of.ensures l.invariant.1)
+    (simp length-set (omega arith), one_word _ c.args.rules.parts.now l.words l.i _ _ (omega arith) c.loop-i-test.true c.word_of.ensures l.invariant.1)

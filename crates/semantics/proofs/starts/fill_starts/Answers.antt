@@ -4,11 +4,8 @@ use Rattle.std.proofs.Common.{arith, rules, ◌≡◌, ◌∙◌, sym, length}
 use Rattle.std.specs.Prelude.{replicate}
 use Rattle.sets.specs.Laws.Tabulated.{all_alike}
 use Rattle.semantics.proofs.Laws.Places.{all_met}
-use Rattle.semantics.proofs.Filling.{none_filled, one_filled, all_filled}
+use Rattle.semantics.proofs.Filling.{one_filled}
 use Rattle.semantics.proofs.starts.fill_starts.Goals as goal
-
-pub loop-s-init : goal.loop-s-init
-loop-s-init c = none_filled _ _
 
 pub loop-s-preserved : goal.loop-s-preserved
 loop-s-preserved c = one_filled _ _ _ _ c.loop-s.invariant _ (omega arith) c.start_mask.ensures
@@ -16,7 +13,4 @@ loop-s-preserved c = one_filled _ _ _ _ c.loop-s.invariant _ (omega arith) c.sta
 pub returns-then-none_has : goal.returns-then-none_has
 returns-then-none_has c =
     let e : c.fill.new.self ≡ replicate (length c.args.row.now) c.full.result.0 = search rules in
-    e ∙ all_alike (length c.args.row.now) c.full.result.0 _ (λ s _. c.full.ensures ∙ all_met c.args.text.now c.args.rules.now (sym c.none_has.ensures ∙ c.if-none_has.true) s)
-
-pub returns-after-loop-s : goal.returns-after-loop-s
-returns-after-loop-s c = all_filled _ _ _ _ c.loop-s.invariant (omega arith)
+    e ∙ all_alike (length c.args.row.now) c.full.result.0 _ (λ s _. c.full.ensures ∙ all_met c.args.rules.text.now c.args.rules.parts.now (sym c.none_has.ensures ∙ c.if-none_has.true) s)

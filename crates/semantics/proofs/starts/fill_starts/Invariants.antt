@@ -4,4 +4,4 @@ use Rattle.semantics.proofs.Filling.{FilledTo}
 use Rattle.semantics.proofs.starts.fill_starts.Given as goal
 
 abbrev pub invariant-loop-s : goal.invariant-loop-s
-invariant-loop-s l = FilledTo (start_mask_by l.text l.rules) l.initial.row l.row l.s
+invariant-loop-s l = FilledTo (start_mask_by l.rules.text.now l.rules.parts.now) l.initial.row l.row l.s

@@ -1,16 +1,9 @@
 -- `start_mask`: each turn adds the rule whose start part is met. From the laws of the set of those that pass a test.
-use Rattle.std.proofs.Common.{arith, ℕ, ◌≡◌, sym, ap, ◌∙◌, length, get_or}
-use Rattle.sets.specs.Gathered.{set_of}
+use Rattle.std.proofs.Common.{sym, ap, ◌∙◌}
 use Rattle.sets.specs.Sets.{with}
 use Rattle.sets.specs.Laws.Gathered.{set_of_more, set_of_same_more}
-use Rattle.rule_lines.specs.RuleLines.{no_parts}
-use Rattle.semantics.specs.Places.{meets_start, start_mask_by}
 use Rattle.semantics.proofs.starts.start_mask.Goals as goal
 use Rattle.semantics.proofs.starts.start_mask.Goals.{then-meets_start, else-meets_start}
-
-pub loop-i-init : goal.loop-i-init
-unfolding set_of
-loop-i-init c = c.empty-met.ensures
 
 pub loop-i-preserved : goal.loop-i-preserved
 loop-i-preserved c =
@@ -20,10 +13,3 @@ loop-i-preserved c =
           ∙ set_of_more c.loop-i.i _ (sym c.meets_start.ensures ∙ w.if-meets_start.true)
       | else-meets_start w ↦ ap (λ m. m.0) w.met-is ∙ c.loop-i.invariant ∙ set_of_same_more c.loop-i.i _ (sym c.meets_start.ensures ∙ w.if-meets_start.false)
     ]
-
-pub returns : goal.returns
-unfolding start_mask_by
-returns c =
-    let a = c.args in
-    let end : c.loop-i.i ≡ length a.rules.now = omega arith in
-    c.loop-i.invariant ∙ ap (λ (n : ℕ). set_of n (λ j. meets_start a.text.now (get_or a.rules.now j no_parts) a.s)) end

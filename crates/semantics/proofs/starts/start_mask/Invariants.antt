@@ -6,4 +6,4 @@ use Rattle.semantics.specs.Places.{meets_start}
 use Rattle.semantics.proofs.starts.start_mask.Given as goal
 
 abbrev pub invariant-loop-i : goal.invariant-loop-i
-invariant-loop-i l = l.met.0 ≡ set_of l.i (λ j. meets_start l.text (get_or l.rules j no_parts) l.s)
+invariant-loop-i l = l.met.0 ≡ set_of l.i (λ j. meets_start l.rules.text.now (get_or l.rules.parts.now j no_parts) l.s)

@@ -1,6 +1,6 @@
--- After s turns of `marks_where` the marks are those of the states below s.
-use Rattle.semantics.specs.TablesOf.{MarksWhere}
+-- After s turns of `marks_where` the marks of the states below s are those that the test gave.
+use Rattle.semantics.proofs.Filling.{MarkedTo}
 use Rattle.semantics.proofs.tables.marks_where.Given as goal
 
 abbrev pub invariant-loop-s : goal.invariant-loop-s
-invariant-loop-s g l = MarksWhere (goal.F-post g l.test) l.s l.marks
+invariant-loop-s g l = MarkedTo (goal.F-post g l.test) l.states l.mark-items l.s

@@ -1,20 +1,15 @@
 -- `sorting::kinds::kinds_of`: what the marked sets have in common they have together, and that is a part of all rules. From the laws of parts.
-use Rattle.std.proofs.Common.{ℕ, ◌-◌, ◌≡◌, refl, ap, ◌∙◌, Bool, bit_and}
-use Rattle.std.proofs.lemmas.Nat.{and_comm}
+use Rattle.std.proofs.Common.{ℕ, ◌-◌, ◌≡◌, refl, Bool, bit_and}
 use Rattle.sets.specs.Bit.{full}
 use Rattle.sets.specs.Sets.{◌⊑◌}
 use Rattle.sets.specs.Lists.{list_of, common}
 use Rattle.sets.specs.Kinds.{together}
-use Rattle.sets.specs.Laws.Sets.{part_and, part_full}
+use Rattle.sets.specs.Laws.Sets.{less_part, part_full}
 use Rattle.sets.specs.Laws.Listed.{mem_list_of}
 use Rattle.sets.proofs.Laws.ByNumber.{common_together, together_below}
 use Rattle.sorting.specs.declared.kinds.Kinds.{Kinds}
 use Rattle.sorting.specs.Kinds.{kinds_by}
 use Rattle.sorting.proofs.kinds.kinds_of.Goals as goal
-
--- a set without a part of it
-less_part : {S T : ℕ} → S ⊑ T → T - bit_and T S ≡ T - S
-less_part {S} {T} p = ap (λ (U : ℕ). T - U) (and_comm T S ∙ part_and p)
 
 -- the rules of each kind as the code finds them, where the marked sets pass the test q
 module _ (R : ℕ) (q : ℕ → Bool) {must some all may irrelevant : ℕ} (m : must ≡ common (list_of R q)) (s : some ≡ together (list_of R q)) (f : all ≡ full R) where
@@ -27,4 +22,4 @@ module _ (R : ℕ) (q : ℕ → Bool) {must some all may irrelevant : ℕ} (m : 
       rw (e, g, less_part in_some, less_part inAll, m, s, f) refl
 
 pub returns : goal.returns
-returns c = kinds_are _ _ c.common-must.ensures c.together-some.ensures c.full.ensures c.less.ensures c.less-2.ensures
+returns c = kinds_are _ _ c.common.ensures c.together.ensures c.full.ensures c.less.ensures c.less-2.ensures

@@ -4,10 +4,10 @@ use Rattle.verdicts.proofs.Reaching.{none_bad, spread_first, judging_next, judgi
 use Rattle.verdicts.proofs.verdict.is_held.Goals as goal
 
 pub returns-then-not-any_with : goal.returns-then-not-any_with
-returns-then-not-any_with c = sym (none_bad _ _ _ c.first_marks.ensures (sym c.any_with.ensures ∙ c.if-not-any_with.true))
+returns-then-not-any_with c = sym (none_bad _ _ c.first_marks.ensures (sym c.any_with.ensures ∙ c.if-not-any_with.true))
 
 pub loop-next-init : goal.loop-next-init
-loop-next-init c = record { spread = spread_first _ _ _ c.first_marks.ensures; next = c.next_round-next.ensures }
+loop-next-init c = record { spread = spread_first _ _ c.first_marks.ensures; next = c.next_round-next.ensures }
 
 pub returns-then-any_with : goal.returns-then-any_with
 returns-then-any_with c = sym (judging_hit c.loop-next.invariant (sym c.any_with-in-Some.ensures ∙ c.if-any_with.true))

@@ -5,4 +5,4 @@ use Rattle.verdicts.proofs.Reaching.{Passed}
 use Rattle.verdicts.proofs.verdict.mark_row.Given as goal
 
 abbrev pub invariant-loop-t : goal.invariant-loop-t
-invariant-loop-t l = Passed (λ k. bit_or (get_or l.fn.marks k 0) (bool_byte (eqb (bit_and (get_or l.row k 0) l.set) l.set))) l.fn.marks l.marks l.t
+invariant-loop-t l = Passed (λ k. bit_or (get_or l.fn.marks k 0) (bool_byte (eqb (bit_and (get_or l.row k 0) l.set.0) l.set.0))) l.fn.marks l.marks l.t

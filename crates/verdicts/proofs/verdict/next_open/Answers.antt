@@ -1,17 +1,20 @@
--- One state more is looked at. Assumes nothing.
-use borrow.Author.Tests.{eq-eqb, ne_eqb}
-use Rattle.verdicts.specs.Marks.{is_open}
-use Rattle.verdicts.proofs.Reaching.{closed_next}
+-- The marks from s on are looked at in turn. Assumes nothing.
+use Rattle.std.proofs.Common.{ℕ, ◌≡◌, ◌≢◌, bit_and, rules}
+use borrow.Author.Tests.{tests}
+use Rattle.std.proofs.lemmas.Iterator.{IsFirst-from_position, YieldsList-from_slice}
+use Rattle.verdicts.proofs.Reaching.{rest, none_open, first_open}
 use Rattle.verdicts.proofs.verdict.next_open.Goals as goal
 
-pub loop-t-preserved : goal.loop-t-preserved
-unfolding is_open
-loop-t-preserved c = closed_next _ _ _ c.loop-t.invariant (ne_eqb _ _ c.if-marks-t-eq-REACHED.false)
+pub returns-in_err-passed : goal.returns-in_err-passed
+returns-in_err-passed c =
+    let first =
+    IsFirst-from_position _ _ _ (λ (m : ℕ). bit_and m 3 ≡ 1) (λ (m : ℕ). bit_and m 3 ≢ 1) c.position.ensures.ran
+    (YieldsList-from_slice (rest c.args.marks.now c.args.s) cc) (λ x q k. search (rules, tests)) (λ x q k. search (rules, tests)) in
+    rw c.from_residual.ensures (none_open _ _ c.requires (rw c.in_err-passed.was at first))
 
-pub returns-then-marks-t-eq-REACHED : goal.returns-then-marks-t-eq-REACHED
-unfolding is_open
-returns-then-marks-t-eq-REACHED c = record {
-  after = c.loop-t.auto.t;
-  here = record { within = c.loop-t-test.true; passes = eq-eqb _ _ c.if-marks-t-eq-REACHED.true };
-  passed = c.loop-t.invariant;
-}
+pub returns : goal.returns
+returns c =
+    let first =
+    IsFirst-from_position _ _ _ (λ (m : ℕ). bit_and m 3 ≡ 1) (λ (m : ℕ). bit_and m 3 ≢ 1) c.position.ensures.ran
+    (YieldsList-from_slice (rest c.args.marks.now c.args.s) cc) (λ x q k. search (rules, tests)) (λ x q k. search (rules, tests)) in
+    first_open _ _ (rw c.in_ok-passed.was at first)

@@ -4,4 +4,4 @@ use Rattle.verdicts.proofs.Reaching.{row_walked}
 use Rattle.verdicts.proofs.verdict.walk_row.Goals as goal
 
 pub returns : goal.returns
-returns c = row_walked _ _ _ _ (omega (arith, c.args.systems.has_room)) c.mark_row.ensures
+returns c = row_walked _ _ _ (omega arith) (rw c.row.ensures.row at c.mark_row.ensures)

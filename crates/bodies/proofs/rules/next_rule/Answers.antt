@@ -1,6 +1,0 @@
--- `bodies::rules::next_rule` meets what `on_line` asks: a line that is read ends within the text. Assumes nothing.
-use Rattle.bodies.specs.Laws.Ranges.{rule_ends}
-use Rattle.bodies.proofs.rules.next_rule.Goals as goal
-
-pub on_line-requires-clause-ends_within : goal.on_line-requires-clause-ends_within
-on_line-requires-clause-ends_within c = rule_ends _ _ _ _ _ c.requires.place c.rule_line-said.ensures

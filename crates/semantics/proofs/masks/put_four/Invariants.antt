@@ -1,7 +1,0 @@
--- After j turns of `put_four` the first j entries are masks, and the others are as they came.
-use Rattle.semantics.proofs.Filling.{FilledTo}
-use Rattle.semantics.proofs.Fours.{one_of_four}
-use Rattle.semantics.proofs.masks.put_four.Given as goal
-
-abbrev pub invariant-loop-j : goal.invariant-loop-j
-invariant-loop-j l = FilledTo (one_of_four l.four) l.initial.part l.part l.j

@@ -1,7 +1,0 @@
--- `sets::ruleset::less`: the rules of one set that are among all others than the second's. From the law of these.
-use Rattle.std.proofs.Common.{arith}
-use Rattle.sets.specs.Laws.Sets.{and_rest}
-use Rattle.sets.proofs.ruleset.less.Goals as goal
-
-pub returns : goal.returns
-returns c = and_rest 16 c.args.rules c.args.gone (omega arith) (omega arith)
