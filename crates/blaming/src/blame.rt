@@ -21,5 +21,6 @@ pub fn blame(text: &[u8], log: &[u8]) -> Result<Blamed, Refusal>
     if !semantics::values::is_met(text, m.model.init, first, first) {
         return Err(Reason::InitUnmet.into());
     }
-    Ok(analysis::blame::blame(m, log))
+    let blamed = analysis::blame::blame(m, log);
+    Ok(blamed)
 }

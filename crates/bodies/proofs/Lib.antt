@@ -1,3 +1,2 @@
--- `Counting` has what the function that counts property lines needs, `PartLines` what those that read the lines need.
-pub mod Counting
+-- `PartLines` has what the functions that read the lines behind `init` need.
 pub mod PartLines

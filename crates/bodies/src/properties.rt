@@ -1,6 +1,6 @@
 // The property lines: how many there are, and the reading of each.
 ghost use Rattle.std.specs.Prelude.{◌≡◌, ◌<◌};
-ghost use Rattle.bodies.specs.Properties.{property_count};
+ghost use Rattle.bodies.specs.Properties.{after_line, property_count};
 ghost use Rattle.bodies.specs.Body.{left, properties_read, last_given};
 ghost use Rattle.bodies.specs.Places.{PartsDue};
 
@@ -8,17 +8,30 @@ use crate::parts::Part;
 use crate::progress::{LineRead, LineStart, Progress};
 use refusals::refusal::Refusal;
 
-// How many property lines s begins with, where one is due. The first is one whatever it holds, and at most three more are.
+// So many property lines at most follow the first.
+const MORE: usize = 3;
+
+// What follows the line that s begins with.
+#[tactic(auto, using(crate::specs::Laws::Lines::line_within, crate::specs::Laws::Lines::line_dropped))]
+fn after_line(s: &[u8]) -> &[u8]
+    ensures { result.now ≡ after_line s.now }
+{
+    slices::parts::rest(s, lines::line::line_length(s) + 1)
+}
+
+// How many property lines s begins with, where one is due. The first is one whatever it holds, and at most three more are. Not by `split`, which looks for
+// the end of a line before the line can be told to have another key: such a line, however long, is not looked through.
 pub fn property_count(s: &[u8]) -> usize
     ensures { result ≡ property_count s.now }
 {
-    let more = s
-        .split(|b| *b == b'\n')
-        .skip(1)
-        .take(3)
-        .take_while(|line| lines::line::starts_with(b"prop=", line))
-        .count();
-    1 + more
+    let mut left = after_line(s);
+    for more in 0..MORE {
+        if !lines::line::starts_with(b"prop=", left) {
+            return 1 + more;
+        }
+        left = after_line(left);
+    }
+    1 + MORE
 }
 
 impl Part for usize {

@@ -2,12 +2,11 @@
 // bytes are lent, at most eight, and field 4 a set; of a look-up field 2 is the core list and field 3 the cut list, of one core field 3 is the order, and of
 // blame the log.
 use crate::fields;
-use crate::shown::{self, Accepted, BlamedIn, Counted, Show};
+use crate::shown::{self, Accepted, BlamedIn, Counted, NoSuchCall, Show};
 use sorting::kinds::Kind;
 use sorting::which::WhichList;
-use std::alloc::Global;
-use std::io;
 use std::io::Write;
+use std::{io, str};
 
 // A case: the bytes of two fields, how many bytes are lent, and a set.
 #[derive(Clone, Copy)]
@@ -107,26 +106,28 @@ impl Case<'_> {
             "blame" => blaming::blame::blame(self.first, self.second)
                 .map(|blamed| BlamedIn(blamed, self.second.len()))
                 .show(out),
-            _ => out.write_all(b"no such call"),
+            _ => lend(out, self.room, |_| NoSuchCall),
         }
     }
 }
 
 // The case's name, and what the call answers. A field that a case lacks is empty: a call that asks none has no field.
-pub(crate) fn run_line(alloc: Global, out: &mut impl Write, line: &str) -> io::Result<()> {
-    let mut fields = line.split(';');
-    let call = fields.next().unwrap_or("");
-    let name = fields.next().unwrap_or("");
-    let first = fields::bytes(alloc, fields.next().unwrap_or(""))?;
-    let third = fields.next().unwrap_or("");
-    let second = fields::bytes(alloc, third)?;
+pub(crate) fn run_line(out: &mut impl Write, line: &[u8]) -> io::Result<()> {
+    let mut fields = line.split(|b| *b == b';');
+    let call = fields.next().unwrap_or(b"");
+    let name = fields.next().unwrap_or(b"");
+    let first = fields::bytes(fields.next().unwrap_or(b""));
+    let third = fields.next().unwrap_or(b"");
+    let second = fields::bytes(third);
     let case = Case {
         first: &first,
         second: &second,
         room: fields::number(third) as usize,
-        set: fields::number(fields.next().unwrap_or("")),
+        set: fields::number(fields.next().unwrap_or(b"")),
     };
-    write!(out, "{name}: ")?;
-    case.ask(out, call)?;
+    out.write_all(name)?;
+    out.write_all(b": ")?;
+    // the calls' names are text, and what is none names no call
+    case.ask(out, str::from_utf8(call).unwrap_or(""))?;
     out.write_all(b"\n")
 }

@@ -16,6 +16,10 @@ pub(crate) trait Show {
 #[derive(Clone, Copy)]
 pub(crate) struct Accepted;
 
+// What no call is there for.
+#[derive(Clone, Copy)]
+pub(crate) struct NoSuchCall;
+
 // A word for what was counted, and how many there are.
 #[derive(Clone, Copy)]
 pub(crate) struct Counted(pub &'static str, pub usize);
@@ -36,6 +40,12 @@ impl<A: Show + Drop> Show for Result<A, Refusal> {
 impl Show for Accepted {
     fn show<W: Write>(self, out: &mut W) -> io::Result<()> {
         out.write_all(b"accepted")
+    }
+}
+
+impl Show for NoSuchCall {
+    fn show<W: Write>(self, out: &mut W) -> io::Result<()> {
+        out.write_all(b"no such call")
     }
 }
 

@@ -38,8 +38,12 @@ fn breach_place(systems: Systems, log: &[u8]) -> Option<usize>
     requires { IsLog systems.tables.now.states log.now }
     ensures { result ≡ breach_place (mark_at systems.entry.tables.now.bad) log.now }
 {
-    log.iter()
-        .position(|state| systems.tables.bad[*state as usize])
+    for place in 0..log.len() {
+        if systems.tables.bad[log[place] as usize] {
+            return Some(place);
+        }
+    }
+    None
 }
 
 // What a log says of the rules and of the bad states.

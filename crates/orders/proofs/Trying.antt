@@ -1,6 +1,6 @@
 -- How rules are tried one by one: once the rest of the order is tried as well, what is found is what the whole order leaves. From the definitions of one
 -- core by an order. Assumes nothing.
-use Rattle.std.proofs.Common.{ℕ, ◌+◌, ◌≤◌, ◌<◌, ◌≡◌, Bool, List, Option, Some, None, length, get_or, drop, refl, sym, ap, ◌∙◌, arith, add-one, drop-cons}
+use Rattle.std.proofs.Common.{ℕ, ◌+◌, ◌≤◌, ◌<◌, ◌≡◌, Bool, List, [], ◌∷◌, Option, Some, None, length, get_or, drop, refl, sym, ap, ◌∙◌, arith, add-one, drop-cons}
 use Rattle.std.proofs.Math.Seq.{drop-length}
 use Rattle.sets.specs.declared.one_core.OneCore.{OneCore}
 use Rattle.sets.specs.Sets.{without}
@@ -49,3 +49,9 @@ module _ (h : ℕ → Bool) (order : List ℕ) (first : OneCore) (tried : ℕ) {
   pub all_tried : length order ≡ tried → found ≡ after_order h first order
   unfolding after_order
   all_tried e = ap (after_order h found) (sym (ap (λ (n : ℕ). drop n order) (sym e) ∙ drop-length order)) ∙ t.rest
+
+-- Where nothing was found, no order drops a rule.
+pub none_dropped : (h : ℕ → Bool) (order : List ℕ) (c : OneCore) → c.core ≡ None → after_order h c order ≡ c
+unfolding after_order
+none_dropped h [] c e = refl
+none_dropped h (i ∷ order) c e = ap (λ d. after_order h d order) (tried_none h c i e) ∙ none_dropped h order c e

@@ -49,5 +49,8 @@ pub fn one_core(systems: Systems, order: &[u8]) -> OneCore
         judgements: 0,
     };
     let first = judged(systems, unjudged, all);
-    drop_all(systems, order, first)
+    match first.core {
+        Some(_) => drop_all(systems, order, first),
+        None => first,
+    }
 }

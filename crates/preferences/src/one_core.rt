@@ -16,5 +16,6 @@ pub fn one_core(text: &[u8], order: &[u8]) -> Result<OneCore, Refusal>
     if !orders::order::is_order(order, m.model.rules) {
         return Err(Reason::NoOrder.into());
     }
-    Ok(analysis::one_core::one_core(m, order))
+    let found = analysis::one_core::one_core(m, order);
+    Ok(found)
 }

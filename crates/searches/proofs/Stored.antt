@@ -13,9 +13,9 @@ use native.Mathlib.Nat.{mul-le-mul}
 use native.Mathlib.Omega.{arith}
 use borrow.Author.Tests.{eqb-true, eqb-false, ltb-false, not-true}
 use lib.Dec.{eqb, ltb}
-use lib.ListN.{length, get_or, set, replicate, length-set, length-append, length-replicate}
+use lib.ListN.{length, get_or, set, replicate, length-set, length-replicate}
 use lib.Seq.{get_or-set_same, get_or-set_other}
-use Rattle.std.proofs.lemmas.List.{get_or_past}
+use Rattle.std.proofs.lemmas.List.{get_or_past, length-take-le, take_more_set}
 use Rattle.std.proofs.lemmas.List.Sums.{prefix_len_is}
 use Rattle.std.proofs.lemmas.Option.{cond_some, none-some}
 use Rattle.sets.specs.Tabulated.{tabulate}
@@ -41,26 +41,35 @@ use Rattle.traces.specs.Laws.Runs.{same_before, runs_snoc, length_runs_in, chain
 -- ---- a mark more
 
 module _ {x : Runs} (s : Sound x) where
-  pub sound_few : length (found_in x) ≤ 128
+  pub sound_few : x.count ≤ 128
   sound_few = omega (arith, s.counted, count_le 128 (λ u. get_or x.marks u false))
 
-  pub sound_length : length (runs_in (found_in x)) ≡ length (found_in x)
-  sound_length = length_runs_in (found_in x)
+  -- As many are found as the count says.
+  sound_found : length (found_in x) ≡ x.count
+  sound_found = length-take-le x.count x.runs (omega (arith, s.room, sound_few))
+
+  pub sound_length : length (runs_in (found_in x)) ≡ x.count
+  sound_length = length_runs_in (found_in x) ∙ sound_found
 
   -- The state that a run ends in stands there.
-  pub sound_last : (k : ℕ) → k < length (found_in x) → last (get_or (runs_in (found_in x)) k []) ≡ last_at x k
-  sound_last k h = chained_last s.chained k h
+  pub sound_last : (k : ℕ) → k < x.count → last (get_or (runs_in (found_in x)) k []) ≡ last_at x k
+  sound_last k h = chained_last s.chained k (omega (arith, h, sound_found))
 
-  pub sound_room : (t : ℕ) → t < 128 → get_or x.marks t false ≡ false → length (found_in x) < 128
+  pub sound_room : (t : ℕ) → t < 128 → get_or x.marks t false ≡ false → x.count < 128
   sound_room t h e = omega (arith, s.counted, count_less (λ u. get_or x.marks u false) 128 t h e)
 
   new : Option ℕ → ℕ → Run
   new parent t = record { last = t; parent = parent }
 
-  more_runs : (parent : Option ℕ) (t : ℕ)
-      → runs_in (found_in x ++ (new parent t ∷ [])) ≡ runs_in (found_in x) ++ ((before (runs_in (found_in x)) parent ++ (t ∷ [])) ∷ [])
+  -- The run that is stored behind those that are found is one more.
+  more_found : (parent : Option ℕ) (t : ℕ) → x.count < 128 → found_in (with_run x parent t) ≡ found_in x ++ (new parent t ∷ [])
+  unfolding with_run new
+  more_found parent t h = take_more_set x.runs x.count (record { last = t; parent = parent }) (omega (arith, s.room))
+
+  more_runs : (parent : Option ℕ) (t : ℕ) → x.count < 128
+      → runs_in (found_in (with_run x parent t)) ≡ runs_in (found_in x) ++ ((before (runs_in (found_in x)) parent ++ (t ∷ [])) ∷ [])
   unfolding new
-  more_runs parent t = runs_snoc (found_in x) (new parent t)
+  more_runs parent t h = rw (more_found parent t h) (runs_snoc (found_in x) (new parent t))
 
   more_marked : (t u : ℕ) → t < 128 → get_or (set x.marks t true) u false ≡ (get_or x.marks u false || eqb t u)
   more_marked t u h = ⊎_elim other same (dichotomy (eqb t u))
@@ -76,24 +85,25 @@ module _ {x : Runs} (s : Sound x) where
           get_or-set_other x.marks t u true false (λ g. eqb-false t u e (sym g))
           ∙ sym (ap (λ b. get_or x.marks u false || b) e ∙ or-false (get_or x.marks u false))
 
-  sound_more : (parent : Option ℕ) (t : ℕ) → t < 128 → get_or x.marks t false ≡ false → ((p : ℕ) → parent ≡ Some p → p < length (found_in x))
+  sound_more : (parent : Option ℕ) (t : ℕ) → t < 128 → get_or x.marks t false ≡ false → ((p : ℕ) → parent ≡ Some p → p < x.count)
       → Stores (record { runs = runs_in (found_in x) ++ ((before (runs_in (found_in x)) parent ++ (t ∷ [])) ∷ []); pairs = x.pairs }) (with_run x parent t)
   unfolding with_run new
   sound_more parent t h unmarked within = record {
-    runs = more_runs parent t;
+    runs = more_runs parent t room;
     pairs = refl;
     sound = record {
       marks = length-set x.marks t true ∙ s.marks;
-      chained = chained_snoc s.chained (new parent t) room h within;
+      room = length-set x.runs x.count (record { last = t; parent = parent }) ∙ s.room;
+      chained = rw (more_found parent t room)
+          (chained_snoc s.chained (new parent t) (omega (arith, room, sound_found)) h (λ p g. omega (arith, within p g, sound_found)));
       marked = λ u.
           more_marked t u h
           ∙ ap₂ ◌||◌ (s.marked u) (ap (λ v. eqb v u) (sym (last_snoc (before (runs_in (found_in x)) parent) t)))
           ∙ sym (is_marked_snoc (runs_in (found_in x)) (before (runs_in (found_in x)) parent ++ (t ∷ [])) u)
-          ∙ ap (λ q. is_marked q u) (sym (more_runs parent t));
+          ∙ ap (λ q. is_marked q u) (sym (more_runs parent t room));
       counted = omega (
         arith,
         s.counted,
-        length-append (found_in x) (new parent t ∷ []),
         count_one_more (λ u. get_or x.marks u false) (λ u. get_or (set x.marks t true) u false) t unmarked
             (get_or-set_same x.marks t true false (omega (arith, s.marks)))
             (λ u g. sym (get_or-set_other x.marks t u true false g)) 128 h,
@@ -101,11 +111,11 @@ module _ {x : Runs} (s : Sound x) where
     };
   }
     where
-      room : length (found_in x) < 128
+      room : x.count < 128
       room = sound_room t h unmarked
 
 -- The count is how many runs there are.
-stores_count : {c : Collection} {x : Runs} → Stores c x → length c.runs ≡ length (found_in x)
+stores_count : {c : Collection} {x : Runs} → Stores c x → length c.runs ≡ x.count
 stores_count a = ap length (sym a.runs) ∙ sound_length a.sound
 
 -- ---- before the first mark
@@ -120,6 +130,7 @@ sound_none : Sound no_runs
 unfolding no_runs runs_in
 sound_none = record {
   marks = length-replicate 128 false;
+  room = length-replicate 128 no_run;
   chained = chained_none;
   marked = λ u. get_d_repeat 128 u false ∙ sym (is_marked_nil u);
   counted = sym (count_none (λ u. get_or (replicate 128 false) u false) (λ u. get_d_repeat 128 u false) 128);
@@ -131,9 +142,9 @@ sound_none = record {
 pub record RowStored (parent : Option ℕ) (q : List (List ℕ)) (c : Collection) (y : Runs) : Type 0 where
   pub stores : Stores c y
   pub behind : before (runs_in (found_in y)) parent ≡ before q parent
-  pub within : (p : ℕ) → parent ≡ Some p → p < length (found_in y)
+  pub within : (p : ℕ) → parent ≡ Some p → p < y.count
 
-row_none : {parent : Option ℕ} {x : Runs} → Sound x → ((p : ℕ) → parent ≡ Some p → p < length (found_in x)) → RowStored parent (runs_in (found_in x)) (collection_in x) x
+row_none : {parent : Option ℕ} {x : Runs} → Sound x → ((p : ℕ) → parent ≡ Some p → p < x.count) → RowStored parent (runs_in (found_in x)) (collection_in x) x
 unfolding collection_in
 row_none s within = record { stores = record { runs = refl; pairs = refl; sound = s }; behind = refl; within = within }
 
@@ -168,7 +179,7 @@ module _ {parent : Option ℕ} {q : List (List ℕ)} {c : Collection} {y : Runs}
     behind = ap (λ p. before p parent) m.runs
         ∙ same_before (runs_in (found_in y)) (before (runs_in (found_in y)) parent ++ (t ∷ [])) parent (λ p g. omega (arith, sound_length s, w.within p g))
         ∙ w.behind;
-    within = λ p g. omega (arith, length-append (found_in y) (record { last = t; parent = parent } ∷ []), w.within p g);
+    within = λ p g. omega (arith, w.within p g);
   }
     where
       s : Sound y
@@ -206,11 +217,11 @@ module _ {start : ℕ → Bool} {s : ℕ} {y : Runs} (w : StartsStored start s y
     row = rw (starts_below_next start s) (row_passed w.row start s (ap (λ b. b && not (get_or y.marks s false)) e));
   }
 
-  pub starts_taken : s < 128 → start s ≡ true → StartsStored start (s + 1) (with_run y None s)
+  pub starts_taken : {u : ℕ} → u ≡ s → s < 128 → start s ≡ true → StartsStored start (s + 1) (with_run y None u)
   unfolding tried before
-  starts_taken h e = record {
+  starts_taken same h e = rw same (record {
     row = rw (starts_below_next start s) (row_taken w.row start s h (ap₂ (λ b m. b && not m) e starts_unmarked));
-  }
+  })
 
 -- ---- the pairs of a row
 
@@ -218,19 +229,19 @@ module _ {start : ℕ → Bool} {s : ℕ} {y : Runs} (w : StartsStored start s y
 pub record PairsStored (size : ℕ) (next : ℕ → Bool) (i : ℕ) (x : Runs) (t : ℕ) (y : Runs) : Type 0 where
   pub row : RowStored (Some i) (runs_in (found_in x)) (try_row size next (get_or (runs_in (found_in x)) i []) t (collection_in x)) y
 
-pub pairs_none : {size : ℕ} {next : ℕ → Bool} {i : ℕ} {x : Runs} → Sound x → i < length (found_in x) → PairsStored size next i x 0 x
+pub pairs_none : {size : ℕ} {next : ℕ → Bool} {i : ℕ} {x : Runs} → Sound x → i < x.count → PairsStored size next i x 0 x
 pairs_none {size} {next} {i} {x} s h = record { row = rw (try_row_zero size next (get_or (runs_in (found_in x)) i []) (collection_in x)) (row_none s (λ p e. let same : i ≡ p = cc in omega arith)) }
 
 -- One pair more is counted.
 unfoldable pub counted : Runs → Runs
-counted y = record { marks = y.marks; runs = y.runs; pairs = y.pairs + 1 }
+counted y = record { marks = y.marks; runs = y.runs; count = y.count; pairs = y.pairs + 1 }
 
 module _ {size : ℕ} {next : ℕ → Bool} {i : ℕ} {x : Runs} {t : ℕ} {y : Runs} (w : PairsStored size next i x t y) where
   c : Collection
   c = try_row size next (get_or (runs_in (found_in x)) i []) t (collection_in x)
 
   -- Where every state is marked, the row has ended.
-  pub pairs_ended : length (found_in y) ≡ size → t ≤ size → Stores (try_row size next (get_or (runs_in (found_in x)) i []) size (collection_in x)) y
+  pub pairs_ended : y.count ≡ size → t ≤ size → Stores (try_row size next (get_or (runs_in (found_in x)) i []) size (collection_in x)) y
   unfolding c
   pairs_ended e h = rw (try_row_stays size next (get_or (runs_in (found_in x)) i []) t (collection_in x) (stores_count w.row.stores ∙ e) size h) w.row.stores
 
@@ -243,6 +254,7 @@ module _ {size : ℕ} {next : ℕ → Bool} {i : ℕ} {x : Runs} {t : ℕ} {y : 
       pairs = ap (λ n. n + 1) w.row.stores.pairs;
       sound = let s = w.row.stores.sound in record {
         marks = s.marks;
+        room = s.room;
         chained = s.chained;
         marked = s.marked;
         counted = s.counted;
@@ -252,7 +264,7 @@ module _ {size : ℕ} {next : ℕ → Bool} {i : ℕ} {x : Runs} {t : ℕ} {y : 
     within = w.row.within;
   }
 
-  next_pair : length (found_in y) ≢ size
+  next_pair : y.count ≢ size
       → try_row size next (get_or (runs_in (found_in x)) i []) (t + 1) (collection_in x)
       ≡ pair_tried next (get_or (runs_in (found_in x)) i []) t c
   unfolding c
@@ -261,12 +273,12 @@ module _ {size : ℕ} {next : ℕ → Bool} {i : ℕ} {x : Runs} {t : ℕ} {y : 
       ∙ try_pair_tried size next (get_or (runs_in (found_in x)) i []) t c (λ e. h (sym (stores_count w.row.stores) ∙ e))
 
   -- and the state is passed over,
-  pub pair_passed : length (found_in y) ≢ size → (next t && not (get_or y.marks t false)) ≡ false → PairsStored size next i x (t + 1) (counted y)
+  pub pair_passed : y.count ≢ size → (next t && not (get_or y.marks t false)) ≡ false → PairsStored size next i x (t + 1) (counted y)
   unfolding c counted tried pair_tried before
   pair_passed h e = record { row = rw (next_pair h) (row_passed pair_counted next t e) }
 
   -- or marked.
-  pub pair_taken : t < 128 → length (found_in y) ≢ size → (next t && not (get_or y.marks t false)) ≡ true
+  pub pair_taken : t < 128 → y.count ≢ size → (next t && not (get_or y.marks t false)) ≡ true
       → PairsStored size next i x (t + 1) (with_run (counted y) (Some i) t)
   unfolding c counted tried pair_tried before
   pair_taken b h e = record { row = rw (next_pair h) (row_taken pair_counted next t b e) }
@@ -274,11 +286,11 @@ module _ {size : ℕ} {next : ℕ → Bool} {i : ℕ} {x : Runs} {t : ℕ} {y : 
 -- ---- the whole search
 
 module _ (M : System) (i : ℕ) {x : Runs} (a : Stores (explored M i) x) where
-  pub stores_short : length (found_in x) ≤ M.size
+  pub stores_short : x.count ≤ M.size
   stores_short = omega (arith, stores_count a, explored_short M i)
 
   -- Every run ends in a state of the system.
-  pub stores_state : (k : ℕ) → k < length (found_in x) → last_at x k < M.size
+  pub stores_state : (k : ℕ) → k < x.count → last_at x k < M.size
   stores_state k h =
       subst (λ s. s < M.size) (ap (λ q. last (get_or q k [])) (sym a.runs) ∙ sound_last a.sound k h)
       (walk_last (get_or (explored M i).runs k []) ((explored_collected M i).runs k (omega (arith, stores_count a))))
@@ -288,7 +300,7 @@ module _ (M : System) (i : ℕ) {x : Runs} (a : Stores (explored M i) x) where
   stores_tried h b = omega (arith, a.pairs, explored_pairs M i, mul-le-mul h b)
 
   -- Where the run at place i has been tried with every state, one run more has been explored.
-  pub stores_next : {y : Runs} → i < length (found_in x)
+  pub stores_next : {y : Runs} → i < x.count
       → Stores (try_row M.size (M.step (last_at x i)) (get_or (runs_in (found_in x)) i []) M.size (collection_in x)) y → Stores (explored M (i + 1)) y
   unfolding collection_in
   stores_next {y} h b = rw (explored_next M i (omega (arith, stores_count a)), ← last_is, ← a.runs, ← a.pairs) b
@@ -297,16 +309,16 @@ module _ (M : System) (i : ℕ) {x : Runs} (a : Stores (explored M i) x) where
       last_is = sym (sound_last a.sound i h) ∙ ap (λ q. last (get_or q i [])) a.runs
 
   -- Where every run has been tried, the search has ended;
-  pub stores_all : length (found_in x) ≤ i → Stores (search M) x
+  pub stores_all : x.count ≤ i → Stores (search M) x
   stores_all h = rw (search_ended M i (omega (arith, stores_count a))) a
 
   -- and where every state is marked.
-  pub stores_full : length (found_in x) ≡ M.size → i ≤ M.size → Stores (search M) x
+  pub stores_full : x.count ≡ M.size → i ≤ M.size → Stores (search M) x
   unfolding search
   stores_full e h = rw (explored_full M i (stores_count a ∙ e) M.size h) a
 
 -- The marks, the count and the pairs of the whole search are its answer.
-pub stored_reached : (M : System) (x : Runs) → Stores (search M) x → ◌≡◌ {A = Reached} (record { marks = x.marks; count = length (found_in x); pairs = x.pairs }) (reached_of M)
+pub stored_reached : (M : System) (x : Runs) → Stores (search M) x → ◌≡◌ {A = Reached} (record { marks = x.marks; count = x.count; pairs = x.pairs }) (reached_of M)
 unfolding reached_of
 stored_reached M x a =
     ap₂ (λ m n. record { marks = m; count = n; pairs = x.pairs }) marks (sym (stores_count a))

@@ -1,6 +1,6 @@
 // The breadth-first search that collects the reached states with a run to each, in the order of marking. No pair of states is tried twice, and
 // none once every state is reached.
-ghost use Rattle.std.specs.Prelude.{◌≡◌, [], get_or};
+ghost use Rattle.std.specs.Prelude.{◌≡◌, ◌<◌, [], get_or};
 ghost use Rattle.searches.specs.Search.{starts_below, try_row, search};
 ghost use Rattle.systems.specs.BySystems.{step_among, start_among, system_among};
 ghost use Rattle.traces.specs.Stored.{runs_in};
@@ -10,13 +10,30 @@ use crate::runs::{Reached, Runs};
 use sets::ruleset::RuleSet;
 use systems::systems::{Systems, meets};
 
+// Whether the state t is a start state of the set.
+fn is_start(systems: Systems, set: RuleSet, t: usize) -> bool
+    requires { t < systems.tables.now.states }
+    ensures { result ≡ start_among systems.entry set.0 t }
+{
+    systems.tables.init[t] & meets(systems.start_row()[t], set)
+}
+
+// Whether the pair of the states s and t is a step of the set.
+fn is_step(systems: Systems, set: RuleSet, s: usize, t: usize) -> bool
+    requires first { s < systems.tables.now.states }
+    requires second { t < systems.tables.now.states }
+    ensures { result ≡ step_among systems.entry set.0 s t }
+{
+    meets(systems.row(s)[t], set)
+}
+
 // The start states of the set are marked, by number. The runs are lent, here and below, since moving them takes longer than a small search.
 fn find_starts(systems: Systems, set: RuleSet, x: &mut Runs)
     requires { x.old ≡ no_runs }
     ensures { Stores (record { runs = starts_below (start_among systems.entry set.0) systems.entry.tables.now.states; pairs = 0 }) x.new }
 {
-    for (t, mask) in systems.start_row().iter().enumerate() {
-        if systems.tables.init[t] & meets(*mask, set) {
+    for t in 0..systems.tables.states {
+        if is_start(systems, set, t) {
             x.mark(None, t);
         }
     }
@@ -32,12 +49,12 @@ fn try_row(systems: Systems, set: RuleSet, i: usize, x: &mut Runs)
 {
     let states = systems.tables.states;
     let from = x.runs[i].last as usize;
-    for (t, mask) in systems.row(from).iter().enumerate() {
-        if x.runs.len() == states {
+    for t in 0..states {
+        if x.count == states {
             return;
         }
         x.pairs += 1;
-        if meets(*mask, set) & !x.marks[t] {
+        if is_step(systems, set, from, t) & !x.marks[t] {
             x.mark(Some(i as u8), t);
         }
     }
@@ -52,8 +69,8 @@ pub(crate) fn explore(systems: Systems, set: RuleSet, x: &mut Runs)
     find_starts(systems, set, x);
     let mut i = 0;
     // No `for`, since the runs that are tried here grow in number.
-    while i < x.runs.len() {
-        if x.runs.len() == systems.tables.states {
+    while i < x.count {
+        if x.count == systems.tables.states {
             return;
         }
         try_row(systems, set, i, x);
@@ -70,7 +87,7 @@ pub fn reached(systems: Systems, set: RuleSet) -> Reached
     explore(systems, set, &mut x);
     Reached {
         marks: x.marks,
-        count: x.runs.len(),
+        count: x.count,
         pairs: x.pairs,
     }
 }

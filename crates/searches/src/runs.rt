@@ -1,7 +1,6 @@
 // The reached states as an answer, and with the runs by which a search has reached them.
 ghost use Rattle.std.specs.Prelude.{◌≡◌};
 
-use arrayvec::ArrayVec;
 use systems::tables::STATES;
 use traces::runs::Run;
 
@@ -15,16 +14,17 @@ pub struct Reached {
 }
 
 // The reached states so far, with a run to each in the order of marking; and how many pairs of states have been tried. The runs have room for those of the
-// largest model in the value itself, since the library has no heap.
-#[derive(Drop)]
+// largest model in the value itself, since the library has no heap. How many of them are found stands beside them: an `ArrayVec` is not `Copy`.
+#[derive(Clone, Copy)]
 pub struct Runs {
     pub marks: [bool; STATES],
-    pub runs: ArrayVec<Run, STATES>,
+    pub runs: [Run; STATES],
+    pub count: usize,
     pub pairs: usize,
 }
 
 impl Runs {
-    ghost use Rattle.searches.specs.Stored.{no_runs, Markable, with_run};
+    ghost use Rattle.searches.specs.Stored.{found_in, no_runs, Markable, with_run};
 
     // Before the first mark.
     #[tactic(auto, unfolding(crate::specs::Stored::no_runs))]
@@ -33,9 +33,17 @@ impl Runs {
     {
         Runs {
             marks: [false; STATES],
-            runs: ArrayVec::new(),
+            runs: [Run::default(); STATES],
+            count: 0,
             pairs: 0,
         }
+    }
+
+    // The runs that are found.
+    pub fn found(&self) -> &[Run]
+        ensures { result.now ≡ found_in self.now }
+    {
+        &self.runs[..self.count.min(self.runs.len())]
     }
 
     // State t is marked, behind the run at place `parent`, or behind none.
@@ -45,9 +53,10 @@ impl Runs {
         ensures { self.new ≡ with_run self.old parent t }
     {
         self.marks[t] = true;
-        self.runs.push(Run {
+        self.runs[self.count] = Run {
             last: t as u8,
             parent,
-        });
+        };
+        self.count += 1;
     }
 }

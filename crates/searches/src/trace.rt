@@ -14,8 +14,8 @@ pub fn trace_of(systems: Systems, set: RuleSet) -> Trace
 {
     let mut x = Runs::none();
     crate::breadth_first::explore(systems, set, &mut x);
-    match traces::trace::first_bad(&x.runs, &systems.tables.bad) {
-        Some(place) => traces::trace::run_at(&x.runs, place),
+    match traces::trace::first_bad(x.found(), &systems.tables.bad) {
+        Some(place) => traces::trace::run_at(x.found(), place),
         None => Trace::none(),
     }
 }

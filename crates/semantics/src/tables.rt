@@ -40,7 +40,7 @@ fn marks_where<F: Fn(usize) -> bool>(states: usize, test: F) -> [bool; STATES]
 }
 
 // The masks and tables of a model.
-pub(crate) fn fill(m: ModelText, masks: &mut [u16]) -> Tables
+pub fn fill(m: ModelText, masks: &mut [u16]) -> Tables
     requires { 128 * (2 ^ m.model.vars + 1) ≤ length masks.old }
     ensures value { result ≡ tables_of (described_by m.entry) }
     ensures masks_after { masks.new ≡ masks_of masks.old (described_by m.entry) }

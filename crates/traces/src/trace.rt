@@ -9,14 +9,16 @@ use crate::runs::Run;
 use arrayvec::ArrayVec;
 use systems::tables::STATES;
 
-// The states of a run that ends in a bad state, in their order. They lie in the value itself, since the library has no heap; not `Copy`, as an `ArrayVec` is
-// not. A set that holds has none, and no Option tells it: the definition of a trace is a list, which is empty then.
-#[derive(Clone, Drop)]
+// The states of a run that ends in a bad state, in their order: so many, and what follows them is 0. An array with a count, since an `ArrayVec` cannot be
+// copied, as an answer is. A set that holds has none, and no Option tells it: the definition of a trace is a list, which is empty then.
+#[derive(Clone, Copy)]
 pub struct Trace {
-    path: ArrayVec<u8, STATES>,
+    count: usize,
+    path: [u8; STATES],
 }
 
 impl Trace {
+    ghost use Rattle.std.specs.Prelude.{◌≤◌, length};
     ghost use Rattle.traces.specs.Traced.{states_of};
 
     // The trace of a set that holds.
@@ -25,15 +27,29 @@ impl Trace {
         ensures { result ≡ trace_with [] }
     {
         Trace {
-            path: ArrayVec::new(),
+            count: 0,
+            path: [0; STATES],
         }
     }
 
-    // The states in their order.
+    // A trace of these states.
+    fn of(states: &[u8]) -> Trace
+        requires { length states.now ≤ 128 }
+        ensures { result ≡ trace_with states.now }
+    {
+        let mut path = [0; STATES];
+        path[..states.len()].copy_from_slice(states);
+        Trace {
+            count: states.len(),
+            path,
+        }
+    }
+
+    // The states in their order. No trace counts more than its array has.
     pub fn states(&self) -> &[u8]
         ensures { result.now ≡ states_of self.now }
     {
-        &self.path
+        &self.path[..self.count.min(STATES)]
     }
 }
 
@@ -51,12 +67,12 @@ pub fn run_at(runs: &[Run], place: usize) -> Trace
     requires { Chained runs.now }
     ensures { result ≡ trace_with (get_or (runs_in runs.now) place []) }
 {
-    let mut path = ArrayVec::new();
+    let mut path = ArrayVec::<u8, STATES>::new();
     let mut next = runs.get(place);
     while let Some(run) = next {
         path.push(run.last);
         next = run.parent.and_then(|place| runs.get(place as usize));
     }
     path.reverse();
-    Trace { path }
+    Trace::of(&path)
 }

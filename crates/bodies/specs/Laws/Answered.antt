@@ -4,7 +4,7 @@ use Rattle.std.specs.Prelude.{ℕ, zero, suc, ◌≤◌, ◌<◌, ◌≡◌, ref
 use Rattle.std.proofs.Common.{subst, ◌∙◌, arith}
 use Rattle.std.proofs.Math.Decide.{dec_lt}
 use Rattle.refusals.specs.Answers.{Answer, RefusedBy, Given}
-use Rattle.bodies.specs.Body.{unless_refused}
+use Rattle.bodies.specs.Body.{unless_refused, given_or, last_given}
 
 -- P is true of the number and the line, or Q of what is given.
 pub data Answered {A : Type 0} (P : ℕ → ℕ → Type 0) (Q : A → Type 0) : Answer A → Type 0 where
@@ -49,6 +49,16 @@ given_next next e = rw e
 pub refused_next : {A B : Type 0} {x : Answer A} (next : A → Answer B) {number line : ℕ} → x ≡ RefusedBy number line → unless_refused x next ≡ RefusedBy number line
 unfolding unless_refused
 refused_next next e = rw e
+
+-- Q is true of what there is after so many steps, a refused one among them or not, if it is of what there was before them and of what each gives.
+pub last_of : {A : Type 0} {Q : A → Type 0} (so_far : ℕ → Answer A) (r : A) → Q r → ((i : ℕ) → IfGiven Q (so_far i)) → (i : ℕ) → Q (last_given so_far r i)
+unfolding last_given given_or
+last_of so_far r q f zero = q
+last_of {A} {Q} so_far r q f (suc i) = go (so_far (suc i)) (f (suc i)) (last_of so_far r q f i)
+  where
+    go : (x : Answer A) → IfGiven Q x → Q (last_given so_far r i) → Q (given_or x (last_given so_far r i))
+    go (RefusedBy number line) w k = k
+    go (Given a) (given w) k = w
 
 -- Lines one after the other, where `so_far` tells what the first so many give and `step` what the next one does.
 module _ {A : Type 0} (so_far : ℕ → Answer A) (step : ℕ → A → Answer A) (more : (i : ℕ) → so_far (suc i) ≡ unless_refused (so_far i) (step i)) {number line : ℕ} where

@@ -17,8 +17,8 @@ use Rattle.bodies.specs.declared.progress.LineRead.{LineRead}
 use Rattle.bodies.specs.declared.progress.Progress.{Progress}
 use Rattle.bodies.specs.Places.{Placed, Passes, EndsWithin}
 use Rattle.bodies.specs.Properties.{after_line, leading, property_count}
-use Rattle.bodies.specs.Body.{behind_line, following, unless_refused, with_property, propertied, next_property, properties_read, with_rule, ruled, next_rule, rules_read}
-use Rattle.bodies.specs.Laws.Answered.{Answered, refused, given, IfGiven, one_given, answered_next}
+use Rattle.bodies.specs.Body.{last_given, behind_line, following, unless_refused, with_property, propertied, next_property, properties_read, with_rule, ruled, next_rule, rules_read}
+use Rattle.bodies.specs.Laws.Answered.{Answered, refused, given, IfGiven, one_given, answered_next, last_of}
 
 -- ---- the places of the lines
 
@@ -118,6 +118,10 @@ properties_placed text n before h (suc j) =
     answered_next (properties_read text n before j) (next_property text n j) (properties_placed text n before h j) (λ _ _ _. tt) λ r _ k.
     placed_property j r k (state_heard prop_key n (drop r.place.at text))
 
+-- so does the line that is due where they end, also where one was refused
+pub properties_left_placed : (text : List ℕ) (n : ℕ) (before : Progress) → Placed text before.place → (j : ℕ) → Placed text (last_given (properties_read text n before) before j).place
+properties_left_placed text n before h = last_of (properties_read text n before) before h (properties_placed text n before h)
+
 placed_rule : {text : List ℕ} (i : ℕ) (r : Progress) {l : Line RuleParts} → Placed text r.place → RuleHeard (drop r.place.at text) l
     → IfGiven (λ q. Placed text q.place) (ruled i r l)
 unfolding ruled following unless_refused with_rule
@@ -131,6 +135,9 @@ rules_placed text n before h zero = given h
 rules_placed text n before h (suc i) =
     answered_next (rules_read text n before i) (next_rule text n i) (rules_placed text n before h i) (λ _ _ _. tt) λ r _ k.
     placed_rule i r k (rule_heard n (is_taken text (take i r.parts)) r.place.at (drop r.place.at text))
+
+pub rules_left_placed : (text : List ℕ) (n : ℕ) (before : Progress) → Placed text before.place → (i : ℕ) → Placed text (last_given (rules_read text n before) before i).place
+rules_left_placed text n before h = last_of (rules_read text n before) before h (rules_placed text n before h)
 
 -- ---- how many property lines there can be
 

@@ -199,7 +199,7 @@ unfolding start_at
 start_read n h none l text step None no_start = refl
 start_read n h none l text step (Some bytes) s = elim s [ ]
 start_read n h (some e) l text step None s = elim s [ ]
-start_read n h (some e) l text step (Some bytes) (some_start rest q) =
+start_read n h (some e) l text step (Some bytes) (some_start rest b q) =
     ap some (sym (read_at (drop step text) bytes e (legal_read n h false e l (drop bytes (drop step text)) rest q)))
 
 -- property lines that are read, and rule lines behind them

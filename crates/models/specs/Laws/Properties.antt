@@ -24,8 +24,8 @@ use Rattle.refusals.specs.Answers.{Given}
 use Rattle.bodies.specs.declared.progress.LineStart.{LineStart}
 use Rattle.bodies.specs.declared.progress.Progress.{Progress}
 use Rattle.bodies.specs.Properties.{after_line, leading, property_count}
-use Rattle.bodies.specs.Body.{behind_line, following, unless_refused, none_read, with_property, propertied, next_property, properties_read}
-use Rattle.bodies.specs.Laws.Answered.{refused, given, IfGiven, given_of, one_given, answered_next, given_before, given_next}
+use Rattle.bodies.specs.Body.{last_given, behind_line, following, unless_refused, none_read, with_property, propertied, next_property, properties_read}
+use Rattle.bodies.specs.Laws.Answered.{refused, given, IfGiven, given_of, one_given, answered_next, last_of, given_before, given_next}
 use Rattle.bodies.specs.Laws.Lines.{line_seam}
 use Rattle.models.specs.Written.{property_at, written_property}
 use Rattle.models.specs.Laws.Lists.{at_more, flat_map_more, flat_map_at, behind, one_behind}
@@ -89,12 +89,20 @@ unfolding propertied following unless_refused with_property
 room_line j r (fault number w) h = refused tt
 room_line j r (said w) h = given (record { props = length-set r.props j _ ∙ h.props; parts = h.parts })
 
+none_room : (p : LineStart) → PlaceArrays (none_read p)
+unfolding none_read
+none_room p = record { props = length-replicate {A = ℕ} 4 0; parts = length-replicate {A = RuleParts} 16 no_parts }
+
 pub properties_room : (text : List ℕ) (n : ℕ) (p : LineStart) (j : ℕ) → IfGiven PlaceArrays (properties_read text n (none_read p) j)
-unfolding properties_read next_property none_read
-properties_room text n p zero = given (record { props = length-replicate {A = ℕ} 4 0; parts = length-replicate {A = RuleParts} 16 no_parts })
+unfolding properties_read next_property
+properties_room text n p zero = given (none_room p)
 properties_room text n p (suc j) =
     answered_next (properties_read text n (none_read p) j) (next_property text n j) (properties_room text n p j) (λ _ _ _. tt) λ r _ h.
     room_line j r (state_heard prop_key n (drop r.place.at text)) h
+
+-- also where a line was refused
+pub properties_left_room : (text : List ℕ) (n : ℕ) (p : LineStart) (j : ℕ) → PlaceArrays (last_given (properties_read text n (none_read p)) (none_read p) j)
+properties_left_room text n p = last_of (properties_read text n (none_read p)) (none_read p) (none_room p) (properties_room text n p)
 
 -- ---- what is found
 

@@ -11,6 +11,9 @@ use Rattle.std.proofs.Math.Option.{Option, none, some}
 use native.Mathlib.Omega.{arith}
 use Rattle.std.proofs.Math.ListN.{length, drop, length-append, get_or-append}
 use Rattle.std.proofs.Math.Seq.{take-length, take-append_seam, drop-append-add, get_or-set_same, get_or-set_other}
+use Rattle.std.proofs.lemmas.List.{take_all}
+use Rattle.sets.specs.Tabulated.{tabulate}
+use Rattle.sets.specs.Laws.Tabulated.{length_tabulate, get_d_tabulate}
 use Rattle.exprs.specs.Expr.{Expr, written}
 use Rattle.rule_lines.specs.declared.names.RuleParts.{RuleParts}
 use Rattle.slices.specs.Same.{same}
@@ -49,6 +52,15 @@ module _ (text name : List ℕ) where
       let f = (or-eq-false-eq-eq-false-and-eq-false (same (name_of text p) name) (is_taken text (take i parts) name)).0 e in
       taken_back parts i f.1 j (omega arith) (omega arith)
 
+  -- The same of i entries, `no_parts` in the place of each that `parts` has not.
+  pub taken_back_all : (parts : List RuleParts) (i : ℕ) → is_taken text (tabulate i (λ j. get_or parts j no_parts)) name ≡ false
+      → (j : ℕ) → j < i → name_of text (get_or parts j no_parts) ≢ name
+  taken_back_all parts i e j h =
+      let entry : ℕ → RuleParts = λ j. get_or parts j no_parts in
+      let count : length (tabulate i entry) ≡ i = length_tabulate i entry in
+      let free = taken_back (tabulate i entry) i (ap (λ l. is_taken text l name) (take_all i (tabulate i entry) (omega (arith, count))) ∙ e) j h (omega (arith, count)) in
+      subst (λ p. name_of text p ≢ name) (get_d_tabulate i entry no_parts j h) free
+
   pub taken_there : (parts : List RuleParts) (i : ℕ) → is_taken text (take i parts) name ≡ true → (j : ℕ) × (j < i) × (name_of text (get_or parts j no_parts) ≡ name)
   unfolding is_taken
   taken_there parts zero t = absurd (false≢true t)
@@ -84,14 +96,14 @@ legal_more n rs rule l r f = record {
 -- s, which begins with a step part, has the start part so many bytes behind; or there is none, and no number.
 pub data StartStands (s : List ℕ) : Option Expr → StartPlace → Type 0 where
   no_start : StartStands s none None
-  some_start : {e : Expr} {bytes : ℕ} (rest : List ℕ) → drop bytes s ≡ written e ++ rest → StartStands s (some e) (Some bytes)
+  some_start : {e : Expr} {bytes : ℕ} (rest : List ℕ) → 0 < bytes → drop bytes s ≡ written e ++ rest → StartStands s (some e) (Some bytes)
 
 -- it stands behind the second `:`
 start_behind_lem : (step : Expr) (start : Option Expr) (s rest : List ℕ) → s ≡ written step ++ (written_start start ++ rest) → StartStands s start (start_behind step start)
 unfolding written_start
 start_behind_lem step none s rest q = no_start
 start_behind_lem step (some e) s rest q =
-    some_start {bytes = length (written step) + 1} rest (ap (drop (length (written step) + 1)) q ∙ drop-append-add (written step) (58 ∷ (written e ++ rest)) 1)
+    some_start {bytes = length (written step) + 1} rest (omega arith) (ap (drop (length (written step) + 1)) q ∙ drop-append-add (written step) (58 ∷ (written e ++ rest)) 1)
 
 -- The name and the parts of a rule stand at the places that are given for them.
 pub record Located (text : List ℕ) (p : RuleParts) (rule : Rule) : Type 0 where

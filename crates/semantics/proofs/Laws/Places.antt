@@ -11,6 +11,8 @@ use Rattle.std.proofs.lemmas.List.Folds.{list_all_more}
 use Rattle.sets.specs.Bit.{has, full}
 use Rattle.sets.specs.Gathered.{set_of}
 use Rattle.sets.specs.Laws.Gathered.{has_set_of, set_of_same, set_of_all}
+use Rattle.sets.specs.Tabulated.{tabulate}
+use Rattle.sets.specs.Laws.Tabulated.{length_tabulate, get_d_tabulate}
 use Rattle.exprs.specs.Expr.{value}
 use Rattle.rule_lines.specs.declared.names.RuleParts.{RuleParts}
 use Rattle.rule_lines.specs.RuleLines.{StartPlace, no_parts}
@@ -55,33 +57,47 @@ module _ (text : List ℕ) (m : Model) where
       go None = refl
       go (Some bytes) = refl
 
-  -- The masks are those of the rules at their places.
-  module _ (room : m.rules ≤ length m.parts) where
-    its_parts : length (take m.rules m.parts) ≡ m.rules
-    its_parts = length-take-le m.rules m.parts room
-
-    rule_is : (i : ℕ) → i < m.rules → rule_at (described text m).rules i ≡ rule_of text (get_or (take m.rules m.parts) i no_parts)
+  -- The masks are those of the rules at their places: of any list that has as many entries as there are rules, each as the model has it.
+  module _ (parts : List RuleParts) (count : length parts ≡ m.rules) (entry : (i : ℕ) → i < m.rules → get_or parts i no_parts ≡ get_or m.parts i no_parts) where
+    rule_is : (i : ℕ) → i < m.rules → rule_at (described text m).rules i ≡ rule_of text (get_or parts i no_parts)
     unfolding rule_in
-    rule_is i h = described_rule text m i h ∙ ap (rule_of text) (sym (get_or-take m.rules m.parts i no_parts h))
+    rule_is i h = described_rule text m i h ∙ ap (rule_of text) (sym (entry i h))
 
-    mask_described : (s t : ℕ) → mask_by text (take m.rules m.parts) s t ≡ mask_of (described text m) s t
+    mask_described : (s t : ℕ) → mask_by text parts s t ≡ mask_of (described text m) s t
     unfolding mask_by mask_of meets step_met rule_of
     mask_described s t =
-        ap (λ (n : ℕ). set_of n (λ i. meets text (get_or (take m.rules m.parts) i no_parts).step s t)) its_parts
+        ap (λ (n : ℕ). set_of n (λ i. meets text (get_or parts i no_parts).step s t)) count
         ∙ set_of_same m.rules _ (λ i. step_met (described text m) i s t) (λ i h. ap (λ r. value r.step s t) (sym (rule_is i h)))
         ∙ ap (λ (n : ℕ). set_of n (λ i. step_met (described text m) i s t)) (sym (described_count text m))
 
-    start_mask_described : (s : ℕ) → start_mask_by text (take m.rules m.parts) s ≡ start_mask_of (described text m) s
+    start_mask_described : (s : ℕ) → start_mask_by text parts s ≡ start_mask_of (described text m) s
     unfolding start_mask_by start_mask_of start_met rule_of
     start_mask_described s =
-        ap (λ (n : ℕ). set_of n (λ i. meets_start text (get_or (take m.rules m.parts) i no_parts) s)) its_parts
-        ∙ set_of_same m.rules _ (λ i. start_met (described text m) i s)
-        (λ i h. start_part (get_or (take m.rules m.parts) i no_parts) s ∙ ap (λ r. start_part_met r.start s) (sym (rule_is i h)))
+        ap (λ (n : ℕ). set_of n (λ i. meets_start text (get_or parts i no_parts) s)) count
+        ∙ set_of_same m.rules _ (λ i. start_met (described text m) i s) (λ i h. start_part (get_or parts i no_parts) s ∙ ap (λ r. start_part_met r.start s) (sym (rule_is i h)))
         ∙ ap (λ (n : ℕ). set_of n (λ i. start_met (described text m) i s)) (sym (described_count text m))
 
-    pub rows_described : mask_row_by text (take m.rules m.parts) (2 ^ m.vars) ≡ mask_row (described text m)
+    rows_described : mask_row_by text parts (2 ^ m.vars) ≡ mask_row (described text m)
     unfolding mask_row_by mask_row described
     rows_described = fun_ext (λ s. fun_ext (λ t. ap₂ (cond (ltb s (2 ^ m.vars))) (mask_described s t) (start_mask_described t)))
+
+  -- The first entries are such a list where there are enough of them.
+  pub rows_taken : m.rules ≤ length m.parts → mask_row_by text (take m.rules m.parts) (2 ^ m.vars) ≡ mask_row (described text m)
+  rows_taken room = rows_described (take m.rules m.parts) (length-take-le m.rules m.parts room) (λ i h. get_or-take m.rules m.parts i no_parts h)
+
+  -- So is, however many there are, the list with `no_parts` in the place of each that is not there.
+  abbrev its_parts : List RuleParts
+  its_parts = tabulate m.rules (λ i. get_or m.parts i no_parts)
+
+  module _ (s : ℕ) where
+    pub mask_of_parts : (t : ℕ) → mask_by text its_parts s t ≡ mask_of (described text m) s t
+    mask_of_parts t = mask_described its_parts (length_tabulate m.rules _) (get_d_tabulate m.rules (λ i. get_or m.parts i no_parts) no_parts) s t
+
+    pub start_mask_of_parts : start_mask_by text its_parts s ≡ start_mask_of (described text m) s
+    start_mask_of_parts = start_mask_described its_parts (length_tabulate m.rules _) (get_d_tabulate m.rules (λ i. get_or m.parts i no_parts) no_parts) s
+
+  pub rows_of_parts : mask_row_by text its_parts (2 ^ m.vars) ≡ mask_row (described text m)
+  rows_of_parts = rows_described its_parts (length_tabulate m.rules _) (get_d_tabulate m.rules (λ i. get_or m.parts i no_parts) no_parts)
 
 -- ---- rules without start parts
 

@@ -1,23 +1,21 @@
--- Each byte of the log is a state, and so has a mark; the first that is bad is looked for. Assumes nothing.
-use Rattle.std.proofs.Common.{◌<◌, rules, arith}
-use Rattle.std.proofs.lemmas.Grind.{get_or_default_zero}
-use Rattle.std.proofs.lemmas.Iterator.{YieldsList-from_slice}
-use Rattle.std.proofs.lemmas.Iterator.Adapters.{serves_from_places}
-use Rattle.std.proofs.lemmas.Iterator.Search.{position_from_yields_List}
+-- `logs::blame::breach_place`: where no earlier state is bad, the first that is has this place. From `is_breach_place`. Assumes nothing.
+use Rattle.std.proofs.Common.{◌≡◌, false, Some, None, rules, arith, get_or}
+use borrow.Author.Count.{below_more}
 use Rattle.systems.specs.ByTables.{mark_at}
-use Rattle.logs.specs.Log.{breach_place}
+use Rattle.logs.proofs.Laws.Log.{is_breach_place}
 use Rattle.logs.proofs.blame.breach_place.Goals as goal
 
-pub position-requires-clause-callable : goal.position-requires-clause-callable
-position-requires-clause-callable c =
-    serves_from_places (YieldsList-from_slice c.args.log.now (cc)) (λ x q k. search rules)
-    (λ x k h e.
-    let few = c.args.systems.has_room.few in
-    let state : x.now < 128 = omega (arith, c.requires.states k h, get_or_default_zero c.args.log.now k x.now h) in
-    search rules)
+pub returns-then-systems-log : goal.returns-then-systems-log
+unfolding mark_at
+returns-then-systems-log c =
+    is_breach_place (mark_at c.args.systems.tables.now.bad) c.args.log.now _
+    record { within = omega (arith, c.loop-place-test.true); breaks = search rules; before = λ k h. c.loop-place.invariant k (omega (arith, h)); none = tt }
+
+pub loop-place-preserved : goal.loop-place-preserved
+unfolding mark_at
+loop-place-preserved c = below_more (λ k. mark_at c.args.systems.tables.now.bad (get_or c.args.log.now k 0) ≡ false) c.loop-place.place c.loop-place.invariant (search rules)
 
 pub returns : goal.returns
-unfolding breach_place mark_at
 returns c =
-    position_from_yields_List (mark_at c.args.systems.tables.now.bad) _ _ c.position.result c.position.ensures.ran
-    (YieldsList-from_slice c.args.log.now (cc)) (λ x b q k. search rules)
+    is_breach_place (mark_at c.args.systems.tables.now.bad) c.args.log.now None
+    record { within = tt; breaks = tt; before = tt; none = λ k h. c.loop-place.invariant k (omega (arith, h, c.loop-place-test.false)) }

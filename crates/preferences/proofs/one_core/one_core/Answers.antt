@@ -1,6 +1,6 @@
 -- `preferences::one_core::one_core` meets its contract: each way out is a case of the answer.
 -- From the laws of the answer. Assumes nothing.
-use Rattle.std.proofs.Common.{ℕ, ◌≡◌, sym, ap, ap₂, ◌∙◌, Bool, true, false, List}
+use Rattle.std.proofs.Common.{ℕ, ◌≡◌, sym, ap, ap₂, ◌∙◌, Bool, true, false, List, rules}
 use mathlib.Core.Bool.{true≢false}
 use Rattle.sets.specs.declared.one_core.OneCore.{OneCore}
 use Rattle.sets.specs.Orders.{IsOrder, is_order}
@@ -37,9 +37,11 @@ pub returns-then-not-is_order : goal.returns-then-not-is_order
 returns-then-not-is_order c =
     rw c.into.ensures (not_ordered c.in_ok-m.ensures.read c.args.order.now c.is_order.ensures c.if-not-is_order.true)
 
-pub one_core-requires : goal.one_core-requires
-one_core-requires c = record { order = ordered c.in_ok-m.ensures.read c.args.order.now c.is_order.ensures c.if-not-is_order.false }
+pub one_core-found-requires : goal.one_core-found-requires
+one_core-found-requires c = record { order = ordered c.in_ok-m.ensures.read c.args.order.now c.is_order.ensures c.if-not-is_order.false }
 
+-- searched for, so that an edit which puts the answer together anew is refused for its parts alone
 pub returns : goal.returns
 returns c =
-    given c.in_ok-m.ensures.read c.args.order.now c.is_order.ensures c.if-not-is_order.false c.one_core.ensures
+    let found = given c.in_ok-m.ensures.read c.args.order.now c.is_order.ensures c.if-not-is_order.false c.one_core-found.ensures in
+    search (rules, found)

@@ -1,6 +1,6 @@
 -- `searches::breadth_first::explore`: a run is tried, or the search has ended. From the laws of what a search holds.
 -- Assumes nothing.
-use Rattle.std.proofs.Common.{arith, sym, ◌∙◌}
+use Rattle.std.proofs.Common.{arith}
 use Rattle.systems.specs.ByTables.{system_by}
 use Rattle.systems.specs.BySystems.{system_among}
 use Rattle.searches.specs.Search.{explored}
@@ -11,12 +11,12 @@ pub loop-i-init : goal.loop-i-init
 unfolding explored system_by
 loop-i-init c = c.find_starts.ensures
 
-pub returns-then-len-systems : goal.returns-then-len-systems
+pub returns-then-x-systems : goal.returns-then-x-systems
 unfolding system_by
-returns-then-len-systems c =
+returns-then-x-systems c =
     let M = system_among c.args.systems c.args.set.0 in
     let i = c.loop-i in
-    stores_full M i.i i.invariant (sym c.len-in-loop-i.ensures.value ∙ c.if-len-systems.true) (omega (arith, stores_short M i.i i.invariant))
+    stores_full M i.i i.invariant c.if-x-systems.true (omega (arith, stores_short M i.i i.invariant))
 
 pub try_row-requires : goal.try_row-requires
 unfolding system_by

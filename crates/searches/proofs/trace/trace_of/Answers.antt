@@ -10,9 +10,9 @@ use Rattle.searches.proofs.trace.trace_of.Goals as goal
 pub returns-in-Some : goal.returns-in-Some
 unfolding system_by trace_array
 returns-in-Some c =
-    rw c.deref-in-Some.ensures.0 at c.run_at.ensures
-    ∙ ap trace_with (trace_found (system_among c.args.systems c.args.set.0) c.explore.ensures _ (rw c.deref.ensures.0 at c.in-Some.ensures))
+    rw c.found-in-Some.ensures at c.run_at.ensures
+    ∙ ap trace_with (trace_found (system_among c.args.systems c.args.set.0) c.explore.ensures _ (rw c.found.ensures at c.in-Some.ensures))
 
 pub returns-in-None : goal.returns-in-None
 unfolding system_by trace_array trace_with
-returns-in-None c = c.none.ensures ∙ ap trace_with (sym (trace_none (system_among c.args.systems c.args.set.0) c.explore.ensures (rw c.deref.ensures.0 at c.in-None.ensures)))
+returns-in-None c = c.none.ensures ∙ ap trace_with (sym (trace_none (system_among c.args.systems c.args.set.0) c.explore.ensures (rw c.found.ensures at c.in-None.ensures)))

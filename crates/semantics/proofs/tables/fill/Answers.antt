@@ -11,7 +11,7 @@ use Rattle.semantics.specs.TablesOf.{rows_of, masks_of, marks_of, tables_of}
 use Rattle.semantics.specs.Places.{mask_row_by}
 use Rattle.semantics.specs.Meaning.{init_met, bad_of}
 use Rattle.semantics.proofs.Filling.{marks_told}
-use Rattle.semantics.proofs.Laws.Places.{init_described, bad_described, rows_described}
+use Rattle.semantics.proofs.Laws.Places.{init_described, bad_described, rows_taken}
 use Rattle.semantics.proofs.tables.fill.Goals as goal
 
 -- tables with equal fields
@@ -32,7 +32,7 @@ module _ (m : ModelText) {states : ℕ} (e : states ≡ 2 ^ m.model.vars) where
   unfolding masks_of described
   masks_are before room p =
       p ∙ ap (λ n. rows_of before (n + 1) n (mask_row_by m.text.now (take m.model.rules m.model.parts) n)) e
-      ∙ ap (rows_of before (2 ^ m.model.vars + 1) (2 ^ m.model.vars)) (rows_described m.text.now m.model room)
+      ∙ ap (rows_of before (2 ^ m.model.vars + 1) (2 ^ m.model.vars)) (rows_taken m.text.now m.model room)
 
 pub returns-clause-value : goal.returns-clause-value
 returns-clause-value c =

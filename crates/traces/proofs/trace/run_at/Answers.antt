@@ -1,5 +1,6 @@
 -- `traces::trace::run_at`: the states of a run are met from its end on, and then turned round. From the laws of `proofs/Traces`. Assumes nothing.
-use Rattle.std.proofs.Common.{rules, arith, ap, ◌∙◌, ℕ, List, length, reverse}
+use Rattle.std.proofs.Common.{rules, arith, ap, ◌≡◌, ◌∙◌, ℕ, List, [], length, get_or, reverse}
+use Rattle.traces.specs.Stored.{runs_in}
 use Rattle.arrayvec.proofs.ArrayVecLemmas.{items-with_items}
 use Rattle.traces.specs.Traced.{trace_with}
 use Rattle.traces.proofs.Traces.{left_at, left_before, run_short, writes_none, writes_room, writes_more, writes_all}
@@ -21,11 +22,17 @@ loop-next-preserved c =
     (writes_more _ (run_short c.requires c.args.place) c.loop-next.path.items c.loop-next.invariant c.in-Some.is c.and_then-next.result
     (left_before c.requires c.in-Some.run'.now.parent _ (search rules)))
 
-pub returns : goal.returns
-unfolding trace_with
-returns c =
-    ap (λ l. record { path = record { items = l } })
-    (items-with_items c.loop-next.path c.reverse.new.self (c.reverse.ensures.len ∙ ap (λ l. length l) c.deref_mut.ensures.value)
+-- the states that are written, turned round, are the run
+written : (c : goal.After-deref) → c.deref.result.now ≡ get_or (runs_in c.args.runs.now) c.args.place []
+written c =
+    c.deref.ensures.0
+    ∙ items-with_items c.loop-next.path c.reverse.new.self (c.reverse.ensures.len ∙ ap (λ l. length l) c.deref_mut.ensures.value)
     ∙ c.reverse.ensures.after
     ∙ ap (λ (l : List ℕ). reverse l) c.deref_mut.ensures.value
-    ∙ writes_all _ (run_short c.requires c.args.place) c.loop-next.path.items c.loop-next.invariant (search rules))
+    ∙ writes_all _ (run_short c.requires c.args.place) c.loop-next.path.items c.loop-next.invariant (search rules)
+
+pub of-requires : goal.of-requires
+of-requires c = rw (written c) (run_short c.requires c.args.place)
+
+pub returns : goal.returns
+returns c = c.of.ensures ∙ ap trace_with (written c.before)
